@@ -4,7 +4,7 @@ ghost use Rattle.std.specs.Prelude.{nat_eq, true};
 ghost use Rattle.af_base.specs.World.{IsLive};
 ghost use Rattle.af_base.specs.Counts.{refs};
 ghost use Rattle.af_base.specs.Changes.{dequeued, with_queue, with_socket};
-ghost use Rattle.af_base.specs.Places.{backlog_at, held_by, queue_at};
+ghost use Rattle.af_base.specs.Places.{held_by, queue_at};
 ghost use Rattle.af_base.specs.Pass.{emptied};
 ghost use Rattle.af_base.specs.Unheld.{without};
 ghost use Rattle.af_desc.specs.FilesView as desc;
@@ -36,37 +36,30 @@ impl Holdings {
         true
     }
 
-    /// Removes the first embryo of a listener from its backlog. Returns whether there was one.
-    /// Takes no memory.
+    /// Removes the first embryo of a listener from its backlog, if there is one. Takes no memory.
     #[inline(always)]
-    fn drop_embryo(&mut self, file: &FileRef) -> bool
-        ensures world { self.new
+    fn drop_embryo(&mut self, file: &FileRef)
+        ensures { self.new
             ≡ record self.old { world = with_socket self.old.world file.now dequeued } }
-        ensures some { IsTrue result → 0 < length (backlog_at self.old.world file.now) }
-        ensures none { result ≡ false → backlog_at self.old.world file.now ≡ [] }
     {
         let Some(embryo) = self.files.dequeue(file) else {
-            return false;
+            return;
         };
         self.files.drop_one(&Place::Backlog, &embryo);
-        true
     }
 
-    /// Removes the first message of a file, or else its first embryo, and their places. Returns
-    /// whether the file had one of the two. Takes no memory.
+    /// Removes the first message of a file, or else its first embryo, and their places. Takes no
+    /// memory.
     #[inline(always)]
-    pub(crate) fn drop_place(&mut self, file: &FileRef) -> bool
-        ensures world { self.new ≡ record self.old {
+    pub(crate) fn drop_place(&mut self, file: &FileRef)
+        ensures { self.new ≡ record self.old {
           world = without_place self.old.world file.now;
           message_room = self.new.message_room;
         } }
-        ensures some { IsTrue result → 0 < places_at self.old.world file.now }
-        ensures none { result ≡ false → places_at self.old.world file.now ≡ 0 }
     {
-        if self.drop_first(file) {
-            return true;
+        if !self.drop_first(file) {
+            self.drop_embryo(file);
         }
-        self.drop_embryo(file)
     }
 
     /// Returns whether a file holds nothing: no message, and no embryo.
@@ -88,7 +81,9 @@ impl Holdings {
           message_room = self.new.message_room;
         } }
     {
-        while self.drop_place(file) {}
+        while !self.is_bare(file) {
+            self.drop_place(file);
+        }
     }
 
     /// Returns a live file that no place holds, if there is one.

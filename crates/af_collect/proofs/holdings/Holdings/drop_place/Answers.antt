@@ -1,6 +1,6 @@
-use Rattle.std.proofs.Common.{◌≡◌, ◌<◌, ℕ, [], drop, length, sym, ap, ◌∙◌, subst, arith}
+use Rattle.std.proofs.Common.{◌≡◌, ℕ, [], drop, sym, ap, ◌∙◌}
 use Rattle.af_base.specs.World.{World}
-use Rattle.af_base.specs.Places.{backlog_at, queue_at}
+use Rattle.af_base.specs.Places.{queue_at}
 use Rattle.af_base.specs.Changes.{dequeued, with_queue, with_socket}
 use Rattle.af_collect.specs.HoldingsView.{HoldingsView}
 use Rattle.af_collect.proofs.FirstPlace.{lost-embryo}
@@ -11,27 +11,13 @@ use Rattle.af_collect.proofs.holdings.Holdings.drop_place.Goals as goal
 unchanged : (old mid : HoldingsView) (f : ℕ) → mid ≡ record old { world = with_queue old.world f (drop 1 (queue_at old.world f)); message_room = mid.message_room } → queue_at old.world f ≡ [] → mid ≡ record old { message_room = mid.message_room }
 unchanged old mid f is silent = is ∙ ap {A = World} {B = HoldingsView} (λ v. record old { world = v; message_room = mid.message_room }) (none-popped old.world f silent)
 
-pub returns-clause-world : goal.returns-clause-world
-returns-clause-world c =
+pub returns-then-not-drop_first : goal.returns-then-not-drop_first
+returns-then-not-drop_first c =
     let old = c.args.self.now in
     let f = c.args.file.now in
-    let silent = c.drop_first.ensures.none c.if-drop_first.false in
+    let silent = c.drop_first.ensures.none c.if-not-drop_first.true in
     let mid = c.drop_first.new.self in
-    let room = ap (λ (s : HoldingsView). s.message_room) c.drop_embryo.ensures.world in
-    c.drop_embryo.ensures.world
+    let room = ap (λ (s : HoldingsView). s.message_room) c.drop_embryo.ensures in
+    c.drop_embryo.ensures
     ∙ ap {A = HoldingsView} {B = HoldingsView} (λ s. record s { world = with_socket s.world f dequeued }) (unchanged old mid f c.drop_first.ensures.world silent)
     ∙ (λ i. record old { world = sym (lost-embryo old.world f silent) i; message_room = sym room i })
-
-pub returns-clause-some : goal.returns-clause-some
-returns-clause-some c t =
-    let f = c.args.file.now in
-    let silent = c.drop_first.ensures.none c.if-drop_first.false in
-    let more = subst (λ (s : HoldingsView). 0 < length (backlog_at s.world f)) (unchanged c.args.self.now c.drop_first.new.self f c.drop_first.ensures.world silent) (c.drop_embryo.ensures.some t) in
-    omega (arith, more)
-
-pub returns-clause-none : goal.returns-clause-none
-returns-clause-none c t =
-    let f = c.args.file.now in
-    let silent = c.drop_first.ensures.none c.if-drop_first.false in
-    let bare = subst (λ (s : HoldingsView). backlog_at s.world f ≡ []) (unchanged c.args.self.now c.drop_first.new.self f c.drop_first.ensures.world silent) (c.drop_embryo.ensures.none t) in
-    omega (arith, ap length silent, ap length bare)
