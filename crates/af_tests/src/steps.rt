@@ -1,12 +1,8 @@
 //! Tests beyond the clauses and scripts. The worked scripts of `scm_cases`, with each refusal, show
 //! that the definitions say what was meant.
 mod acts;
-mod chains;
 mod cycle;
-mod full;
 mod growths;
-mod installs;
-mod lives;
 mod runs;
 mod told;
 mod views;

@@ -1,9 +1,7 @@
 //! The tests of the crates that scripts and races are made of, a module for each: what no clause
-//! says and no case of `scm_cases` shows.
+//! says, and neither a case of `scm_cases` nor `tests/program.py` shows.
 #![tactic(auto)]
 
-#[cfg(test)]
-mod command;
 #[cfg(test)]
 mod race;
 #[cfg(test)]

@@ -1,6 +1,3 @@
-//! Tests beyond the cases of `scm_cases`: streams that fail, and scripts that are long or no text.
-mod cuts;
+//! Scripts over streams that fail, or do little at a time.
 mod faults;
-mod lines;
-mod long;
 mod streams;

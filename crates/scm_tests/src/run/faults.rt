@@ -1,10 +1,49 @@
 //! Streams that fail, or do little at a time.
-use super::cuts::{REPLIES, SCRIPT, first_lines};
 use super::streams::{AMPLE, Pace, PacedWriter, run_over, run_to};
 use scm_run::RunFault;
 use std::alloc::{AllocError, AllocGlobal, Global};
 use std::process::Abort;
 use std::test::Fail;
+
+/// The smallest cycle: a socket in its own queue, which a pass takes.
+const SCRIPT: &[u8] = b"spawn 1000 16
+1 pair seqpacket
+1 send 1 hi 0
+1 close 0
+totals
+check
+pass
+totals
+1 send 1 x
+check
+";
+
+/// A line for each of its lines.
+const REPLIES: &[u8] = b"pid 1
+fds 0 1
+sent 2
+ok
+user 1000 inflight 1
+check ok live 2 garbage 1
+pass 1 reclaimed 1
+user 1000 inflight 0
+EPIPE
+check ok live 1 garbage 0
+";
+
+/// So many lines of a text.
+fn first_lines(text: &[u8], lines: usize) -> &[u8] {
+    let mut left = lines;
+    for i in 0..text.len() {
+        if left == 0 {
+            return &text[..i];
+        }
+        if text[i] == b'\n' {
+            left -= 1;
+        }
+    }
+    text
+}
 
 /// The replies to the whole lines among the first bytes of the script.
 fn replies_to(front: &[u8]) -> &'static [u8] {

@@ -23,9 +23,9 @@ pub const AMPLE: Pace = Pace {
 
 /// A reader of this pace.
 #[derive(Drop)]
-pub struct PacedReader<'a> {
-    pub bytes: &'a [u8],
-    pub pace: Pace,
+struct PacedReader<'a> {
+    bytes: &'a [u8],
+    pace: Pace,
 }
 
 impl Read for PacedReader<'_> {
@@ -74,7 +74,7 @@ impl Write for PacedWriter {
 
 /// Runs a script to its end or to its fault. A test looks at what that left and no further, so this
 /// promises nothing.
-pub fn run_all<R: Read, W: Write>(
+fn run_all<R: Read, W: Write>(
     alloc: Global,
     input: &mut Watched<R>,
     output: &mut Watched<W>,

@@ -1,0 +1,387 @@
+#!/usr/bin/env python3
+"""program.py: whether the built program answers as it has to, where no case of crates/scm_cases can show it.
+
+A case is a script and its replies. Here are command lines, the status and the complaint of each run, lines at the
+limits, scripts that are cut anywhere, streams that fail, races, and scripts that fill all that there is. It prints a
+line for each answer that differs, and then 'N passed, M failed'. The status is 0 only if M is 0, and 2 where the
+program is not built.
+"""
+import argparse
+import contextlib
+import os
+import subprocess
+import sys
+from pathlib import Path
+from typing import Iterator, List, NamedTuple, Tuple
+
+ROOT = Path(os.path.realpath(__file__)).parent.parent
+# How many bytes the longest line has, without its end.
+LONGEST = 262_144
+
+
+class Answer(NamedTuple):
+    """How a run ended, and what it wrote."""
+
+    status: int
+    output: bytes
+    error: bytes = b""
+
+
+# The name of a check, what the program answered, and whether that is right.
+Check = Tuple[str, Answer, bool]
+
+
+class Program:
+    """The program that is tried."""
+
+    def __init__(self, path: str):
+        self.path = path
+
+    def run(self, line: str, script: bytes = b"", **streams) -> Answer:
+        """What it answers to a command line, with one space between words, and a script or these streams."""
+        words = line.split(" ") if line else []
+        how = {"stdout": subprocess.PIPE, "stderr": subprocess.PIPE, **streams}
+        if "stdin" not in how:
+            how["input"] = script
+        ended = subprocess.run([self.path, *words], check=False, timeout=120, **how)
+        return Answer(ended.returncode, ended.stdout or b"", ended.stderr)
+
+    def check(self, name: str, line: str, script: bytes, wanted: Answer) -> Check:
+        found = self.run(line, script)
+        return name, found, found == wanted
+
+    def check_script(self, script: bytes, wanted: Answer) -> Check:
+        return self.check(f"{script[:60]!r}", "run", script, wanted)
+
+
+def unreadable(number: int, output: bytes = b"") -> Answer:
+    """The answer to a script whose line of this number cannot be read."""
+    return Answer(2, output, b"scmgc: line %d cannot be read\n" % number)
+
+
+# ---- Command lines and races ----
+
+
+def race(**changed) -> str:
+    """The command line of a small race with these numbers changed. None leaves a number out."""
+    numbers = {"workers": 1, "steps": 5, "seed": 0, "budget": 1, **changed}
+    return " ".join(["race", *(f"--{name} {it}" for name, it in numbers.items() if it is not None)])
+
+
+# Calls for help, and what names no task.
+OTHER_WORDS = ["walk", "", "run fast", "--help", "--version", "run --help", "race --help"]
+OUT_OF_RANGE = [
+    *(race(workers=it) for it in (33, 0, "one")),
+    *(race(steps=it) for it in (4, 20_001, "")),
+    *(race(seed=it) for it in (4_294_967_296, -1)),
+    *(race(budget=it) for it in (0, 65_537)),
+    race(steps=20_001, checkpoint=0),
+    race(steps=100_000_001, checkpoint=1),
+    race(checkpoint=250_001),
+]
+NUMBERS = ["workers", "steps", "seed", "budget"]
+LEFT_OUT = [race(**{it: None}) for it in NUMBERS]
+TWICE = [*(f"{race()} --{it} 1" for it in NUMBERS), f"{race(checkpoint=1)} --checkpoint 1"]
+# Races that end well, and how many steps their workers make.
+RACES = [
+    (race(workers=4, steps=2_000, seed=7, budget=8), 8_000),
+    (race(), 5),
+    (race(checkpoint=0), 5),
+    (race(workers=4, steps=25_000, seed=7, budget=8, checkpoint=30_000), 100_000),
+]
+
+
+def command_lines(program: Program) -> Iterator[Check]:
+    """Those that are refused read no script, write a complaint or the help, and have status 2."""
+    for line in [*OTHER_WORDS, *OUT_OF_RANGE, *LEFT_OUT, *TWICE]:
+        found = program.run(line, b"spawn 1000 16\n")
+        yield line, found, found.status == 2 and not found.output and bool(found.error)
+    yield program.check("the version", "--version", b"", Answer(2, b"", b"scmgc 0.2.0\n"))
+    for line, said in [
+        ("run --help", b"version 2"),
+        ("run --help", b"P peek N N N"),
+        ("run --help", b"P limit N"),
+        (race(steps=20_001), b"more than 20000 steps need --checkpoint"),
+    ]:
+        found = program.run(line)
+        yield f"{line} says {said!r}", found, said in found.error
+
+
+def races(program: Program) -> Iterator[Check]:
+    for line, steps in RACES:
+        yield program.check(line, line, b"", Answer(0, b"steps %d\naudit ok\nleft 0\n" % steps))
+
+
+# ---- Lines ----
+
+BAD_LINES = [
+    b"spawn 01 4",
+    b"spawn 4294967296 4",
+    b"spawn 1 4 root",
+    b"spawn 1",
+    b"1 pair dgram",
+    b"1 send 0",
+    b"1 send 0 a%2",
+    b"1 send 0 a%2G",
+    b"1 send 0 *65538",
+    b"1 send 0 a 0*0",
+    b"1 send 0 a 0*1024 0",
+    b"1 close 0 0",
+    b"pass\r\r",
+    b" " * (LONGEST + 1),
+    b" " * LONGEST + b" \r",
+    b" " * LONGEST + b"\r ",
+    b"1 peek 0 1 1",
+]
+# Lines that can be read, and their replies. A comment may have bytes that are no text.
+GOOD_LINES = [
+    (b"spawn 4294967295 0", b"pid 1\n"),
+    (b"1 send 0 a 0*1024", b"ESRCH\n"),
+    (b"#\xff", b""),
+    (b" " * LONGEST, b""),
+]
+# Scripts, and how they end.
+SCRIPTS = [
+    (b"\tpass \r\n", Answer(0, b"pass 1 reclaimed 0\n")),
+    (b" " * LONGEST + b"\r\n", Answer(0, b"")),
+    (b"#\xff\n1 close 0\n#\xff", Answer(0, b"ESRCH\n")),
+    (b"pass\nversion 2\n", unreadable(2, b"pass 1 reclaimed 0\n")),
+]
+
+
+def lines(program: Program) -> Iterator[Check]:
+    """Each line is answered alike with its line feed and without."""
+    wanted = [*((line, unreadable(1)) for line in BAD_LINES), *((line, Answer(0, it)) for line, it in GOOD_LINES)]
+    for line, answer in wanted:
+        yield program.check_script(line, answer)
+        yield program.check_script(line + b"\n", answer)
+    for script, answer in SCRIPTS:
+        yield program.check_script(script, answer)
+
+
+# The smallest cycle, a socket in its own queue, which a pass takes: lines with their replies.
+CYCLE = [
+    (b"spawn 1000 16", b"pid 1\n"),
+    (b"1 pair seqpacket", b"fds 0 1\n"),
+    (b"1 send 1 hi 0", b"sent 2\n"),
+    (b"1 close 0", b"ok\n"),
+    (b"totals", b"user 1000 inflight 1\n"),
+    (b"check", b"check ok live 2 garbage 1\n"),
+    (b"pass", b"pass 1 reclaimed 1\n"),
+    (b"totals", b"user 1000 inflight 0\n"),
+    (b"1 send 1 x", b"EPIPE\n"),
+    (b"check", b"check ok live 1 garbage 0\n"),
+]
+# The beginnings of these lines that are lines themselves, with their replies.
+BEGINNINGS = {
+    b"": b"",
+    b"spawn 1000 1": b"pid 1\n",
+    b"1 send 1 h": b"sent 1\n",
+    b"1 send 1 hi": b"sent 2\n",
+    b"1 send 1 hi ": b"sent 2\n",
+}
+
+
+def cut_scripts(program: Program) -> Iterator[Check]:
+    """That script is cut after each of its bytes."""
+    before, replies = b"", b""
+    for number, (line, reply) in enumerate(CYCLE, 1):
+        for cut in range(len(line)):
+            last = BEGINNINGS.get(line[:cut])
+            wanted = unreadable(number, replies) if last is None else Answer(0, replies + last)
+            yield program.check(f"line {number} cut to {cut} bytes", "run", before + line[:cut], wanted)
+        replies += reply
+        yield program.check(f"line {number} without its end", "run", before + line, Answer(0, replies))
+        before += line + b"\n"
+    yield program.check("no line cut", "run", before, Answer(0, replies))
+
+
+# ---- Streams that fail ----
+
+
+def streams(program: Program) -> Iterator[Check]:
+    folder = os.open(ROOT, os.O_RDONLY)
+    found = program.run("run", stdin=folder)
+    yield "a read that fails", found, found == Answer(1, b"", b"scmgc: reading failed\n")
+    os.close(folder)
+    with open("/dev/full", "wb") as full:
+        found = program.run("run", b"spawn 1000 16\n", stdout=full)
+    yield "a write that fails", found, found == Answer(1, b"", b"scmgc: writing failed\n")
+    yield refuses_a_long_line_at_once(program)
+
+
+def refuses_a_long_line_at_once(program: Program) -> Check:
+    """A line that is too long ends the run before more of it comes."""
+    pipes = {"stdin": subprocess.PIPE, "stdout": subprocess.PIPE, "stderr": subprocess.PIPE}
+    with subprocess.Popen([program.path, "run"], bufsize=0, **pipes) as run:
+        # (a program that ends too soon has closed the other end)
+        with contextlib.suppress(BrokenPipeError):
+            run.stdin.write(b"x" * (LONGEST + 1))
+        found = Answer(run.wait(timeout=120), run.stdout.read(), run.stderr.read())
+    return "a long line that goes on", found, found == unreadable(1)
+
+
+# ---- Scripts that fill all that there is ----
+
+# 64 queues full of messages with 253 descriptors each, and one with 48 of them and 144 more descriptors: 1,048,576
+# descriptors in flight. A child has each pair. The last queue is full too, of messages without descriptors, and a
+# process without privilege sends.
+FULL_QUEUES = (
+    "spawn 1000 2 priv\n"
+    + 64 * ("1 pair seqpacket\n" + 64 * "1 send 0 m 0*253\n" + "1 fork\n1 close 0\n1 close 1\n")
+    + "1 pair seqpacket\n"
+    + 48 * "1 send 0 m 0*253\n"
+    + "1 send 0 m 0*144\n"
+    + 14 * "1 send 0 m\n"
+    + "totals\n1 send 0 m 0\n1 send 0 m\n1 send 0 m 0\n1 send 0 m\n1 recv 1 1 0\ntotals\n"
+    + "1 send 0 m 0*253\n1 send 0 m 0\nspawn 1000 2\n66 pair stream\n66 send 0 m 0\n"
+)
+QUEUES = """sent 1
+user 1000 inflight 1048576
+ENOBUFS
+sent 1
+ENOBUFS
+EAGAIN
+got m ctrunc
+user 1000 inflight 1048323
+sent 1
+ENOBUFS
+pid 66
+fds 0 1
+ETOOMANYREFS
+"""
+
+# 128 embryos wait at a listener, each with 64 messages; of 64 embryos each message has 253 descriptors. All go by one
+# close.
+CLIENT = "1 socket seqpacket\n1 connect 2 hub\n"
+FULL_LISTENER = (
+    "spawn 1000 3 priv\n1 socket seqpacket\n1 bind 0 hub\n1 listen 0 128\n1 open\n"
+    + 64 * (CLIENT + 64 * "1 send 2 m 1*253\n" + "1 close 2\n")
+    + 64 * (CLIENT + 64 * "1 send 2 m\n" + "1 close 2\n")
+    + CLIENT
+    + "totals\n1 close 0\ntotals\ncheck\n"
+)
+LISTENER = """ok
+fd 2
+EAGAIN
+user 1000 inflight 1036288
+ok
+user 1000 inflight 0
+check ok live 2 garbage 0
+"""
+
+# A chain of 65,531 sockets, each in the queue of the next and of no other; a listener with one embryo, its client, and
+# a client that waits for room; and a plain file: as many files as may be live. One close frees the chain. No bound is
+# proved for the stack.
+FULL_MACHINE = (
+    "spawn 1000 4 priv\nspawn 1000 0\nspawn 1000 4\n3 socket stream\n3 bind 0 hub\n3 listen 0 1\n"
+    + "3 socket stream\n3 connect 1 hub\n3 socket stream\n1 pair seqpacket\n1 close 1\n"
+    + 32_765
+    * (
+        "1 pair seqpacket\n1 send 2 a 0\n1 close 0\n1 close 2\n"
+        + "1 pair seqpacket\n1 send 2 a 1\n1 close 1\n1 close 2\n"
+    )
+    + "totals\n1 pair seqpacket\n1 open\n1 open\n1 socket stream\n2 open\n2 socket stream\n2 pair stream\n"
+    + "3 connect 2 hub\n3 accept 0\n3 connect 2 hub\ncheck\n1 close 0\ncheck\ntotals\n"
+)
+MACHINE = """user 1000 inflight 65530
+ENFILE
+fd 1
+ENFILE
+ENFILE
+EMFILE
+EMFILE
+EMFILE
+EAGAIN
+fd 3
+ENFILE
+check ok live 65536 garbage 0
+ok
+check ok live 5 garbage 0
+user 1000 inflight 0
+"""
+
+# A chain of 60,000 stream sockets behind number 0, two in each queue, which one close frees with it.
+LONG_CHAIN = (
+    "spawn 0 16 priv\n1 pair stream\n"
+    + 30_000 * "1 pair stream\n1 send 1 x 2 3\n1 dup2 3 1\n1 close 2\n1 close 3\n"
+    + "1 close 1\ntotals\ncheck\n1 close 0\ntotals\ncheck\n"
+)
+CHAIN = """ok
+user 0 inflight 60000
+check ok live 60001 garbage 0
+ok
+user 0 inflight 0
+check ok live 0 garbage 0
+"""
+
+# 64 processes open 1,024 plain files each: as many as may be live. A further process has none, and can open none.
+FULL_TABLES = (
+    "".join(f"spawn 1000 1024\n{1_024 * f'{pid} open{chr(10)}'}" for pid in range(1, 65))
+    + "64 open\nspawn 1000 1024\n65 open\ncheck\n"
+)
+TABLES = """fd 1023
+EMFILE
+pid 65
+ENFILE
+check ok live 65536 garbage 0
+"""
+
+# A file is opened and closed 100,000 times, and then another one, which has the next inode number.
+MANY_LIVES = "spawn 1000 16\n" + 100_000 * "1 open\n1 close 0\n" + "1 open\ntable\n"
+LIVES = """fd 0
+ok
+fd 0
+   inode    refs     fly kind      state     msgs wait     peer name
+  100001       1       0 plain     -            0    0        0 -
+"""
+
+# As many processes as may be.
+ALL_PROCESSES = 1_024 * "spawn 1000 0\n" + "spawn 1000 0\nspawn 1000 1025\n1 fork\n1 exit\n2 fork\n"
+PROCESSES = """pid 1024
+EAGAIN
+ERANGE
+EAGAIN
+ok
+pid 1025
+"""
+
+LONG_SCRIPTS = [
+    ("full queues", FULL_QUEUES, QUEUES),
+    ("a full listener", FULL_LISTENER, LISTENER),
+    ("a full machine", FULL_MACHINE, MACHINE),
+    ("a long chain of streams", LONG_CHAIN, CHAIN),
+    ("full tables", FULL_TABLES, TABLES),
+    ("many lives", MANY_LIVES, LIVES),
+    ("all processes", ALL_PROCESSES, PROCESSES),
+]
+
+
+def long_scripts(program: Program) -> Iterator[Check]:
+    """Each is run to its end, and its last replies are these."""
+    for name, script, replies in LONG_SCRIPTS:
+        found = program.run("run", script.encode())
+        last = Answer(found.status, found.output[-len(replies) :], found.error)
+        yield name, last, last == Answer(0, replies.encode())
+
+
+PARTS = [command_lines, races, lines, cut_scripts, streams, long_scripts]
+
+
+def main() -> int:
+    form = argparse.ArgumentParser(description=__doc__, formatter_class=argparse.RawDescriptionHelpFormatter)
+    form.add_argument("--program", default=f"{ROOT}/crates/scmgc/out/scmgc", help="another build of scmgc")
+    path = form.parse_args().program
+    if not os.access(path, os.X_OK):
+        print(f"{path} is not built: run make build", file=sys.stderr)
+        return 2
+    checks: List[Check] = [check for part in PARTS for check in part(Program(path))]
+    faults = [(name, found) for name, found, is_right in checks if not is_right]
+    for name, found in faults:
+        print(f"{name}: status {found.status}, {found.output[-300:]!r}, {found.error[-300:]!r}")
+    print(f"{len(checks) - len(faults)} passed, {len(faults)} failed")
+    return int(bool(faults))
+
+
+if __name__ == "__main__":
+    sys.exit(main())
