@@ -82,11 +82,16 @@ OUT_OF_RANGE = [
 NUMBERS = ["workers", "steps", "seed", "budget"]
 LEFT_OUT = [race(**{it: None}) for it in NUMBERS]
 TWICE = [*(f"{race()} --{it} 1" for it in NUMBERS), f"{race(checkpoint=1)} --checkpoint 1"]
-# Races that end well, and how many steps their workers make.
+# Races that end well, and how many steps their workers make. Checkpoints come after each event, after parts that do not
+# divide the steps, or later than the last event.
 RACES = [
     (race(workers=4, steps=2_000, seed=7, budget=8), 8_000),
     (race(), 5),
     (race(checkpoint=0), 5),
+    (race(checkpoint=1), 5),
+    (race(workers=3, steps=50, seed=8, budget=8, checkpoint=1), 150),
+    (race(workers=4, steps=401, seed=8, budget=8, checkpoint=100), 1_604),
+    (race(workers=4, steps=400, seed=8, budget=8, checkpoint=250_000), 1_600),
     (race(workers=4, steps=25_000, seed=7, budget=8, checkpoint=30_000), 100_000),
 ]
 

@@ -1,135 +1,88 @@
-//! Words and a script with what they are, and that ample memory is enough.
-use af_base::events::{Event, SockType, Step};
-use af_base::ids::{Fd, Pid};
-use af_base::items::Items;
+//! Words and a script with the lines of scripts that say what they are, and that ample memory is
+//! enough.
+use af_base::events::Event;
+use scm_lines::{Line, line_of};
 use scm_race::workload::{event_of_word, make_script};
-use std::alloc::{AllocError, AllocGlobal};
+use std::alloc::{AllocError, AllocGlobal, Global};
 use std::process::Abort;
-use std::test::Fail;
 
-/// Whether the event is this step of this process.
-fn is_step(event: &Event, pid: u32, wanted: &Step) -> bool {
-    match event {
-        Event::Proc(Pid(found), step) => *found == pid && step == wanted,
+/// Returns whether the event is that of this line of a script.
+fn is_of_line(alloc: Global, event: &Event, line: &str) -> bool {
+    match line_of(alloc, line.as_bytes()) {
+        Ok(Line::Event(wanted)) => *event == wanted,
         _ => false,
     }
 }
 
-/// These words are these steps of worker 2 of 4.
-fn stand_for<T: Abort + AllocGlobal>(rt: &T, words: &[(u64, Step)]) -> Result<(), AllocError> {
-    for (word, wanted) in words {
-        let found = event_of_word(rt.alloc(), 2, 4, *word)?;
-        assert!(rt; is_step(&found, 2, wanted), "word {word} is {found:?}");
+/// The word stands for this event of worker 2 of 4.
+fn stands_for<T: Abort + AllocGlobal>(rt: &T, word: u64, line: &str) -> Result<(), AllocError> {
+    let event = event_of_word(rt.alloc(), 2, 4, word)?;
+    assert!(rt;
+        is_of_line(rt.alloc(), &event, line),
+        "word {word} is {event:?}"
+    );
+    Ok(())
+}
+
+/// Words, with their events.
+static WORDS: [(u64, &str); 11] = [
+    (0, "2 open"),
+    (2, "2 dup 0"),
+    (1_284, "2 dup2 5 0"),
+    (9, "2 fork"),
+    ((1 << 40) + 9, "2 close 4"),
+    (10, "2 pair stream"),
+    ((1 << 40) + 12, "2 socket seqpacket"),
+    ((1 << 33) + 13, "2 connect 8 w3"),
+    ((1 << 42) + 18, "2 send 4 xxxxx 4 4"),
+    (31, "2 recv 0 16 4"),
+    (u64::MAX, "2 recv 3 16 4"),
+];
+
+#[test]
+fn worked_words(rt: HostRuntime) -> Result<(), AllocError> {
+    for (word, line) in &WORDS {
+        stands_for(&rt, *word, line)?;
     }
     Ok(())
 }
 
-/// Makes a send of this many letters x, with these descriptors.
-fn send<T: AllocGlobal>(
-    rt: &T,
-    on: u32,
-    letters: usize,
-    attach: &[Fd],
-) -> Result<Step, AllocError> {
-    let mut fds = Vec::new(rt.alloc());
-    fds.extend_from_slice(attach)?;
-    Ok(Step::Send {
-        on: Fd(on),
-        bytes: Items::of(vec![in rt.alloc(); b'x'; letters]?),
-        attach: Items::of(fds),
-    })
-}
-
-/// A connect to the listener of this name.
-fn connect<T: AllocGlobal>(rt: &T, on: u32, name: &[u8]) -> Result<Step, AllocError> {
-    let mut bytes = Vec::new(rt.alloc());
-    bytes.extend_from_slice(name)?;
-    Ok(Step::Connect {
-        on: Fd(on),
-        name: Items::of(bytes),
-    })
-}
-
-/// Words, with their steps.
-const WORDS: [(u64, Step); 9] = [
-    (0, Step::Open),
-    (2, Step::Dup(Fd(0))),
-    (1_284, Step::Dup2(Fd(5), Fd(0))),
-    (9, Step::Fork),
-    ((1 << 40) + 9, Step::Close(Fd(4))),
-    (10, Step::Pair(SockType::Stream)),
-    ((1 << 40) + 12, Step::Socket(SockType::Seqpacket)),
-    (
-        31,
-        Step::Recv {
-            on: Fd(0),
-            max_bytes: 16,
-            max_fds: 4,
-        },
-    ),
-    (
-        u64::MAX,
-        Step::Recv {
-            on: Fd(3),
-            max_bytes: 16,
-            max_fds: 4,
-        },
-    ),
+/// Places of a script, with the events there.
+static DRAWN: [(usize, &str); 10] = [
+    (0, "3 socket stream"),
+    (4, "3 recv 1 16 4"),
+    (5, "3 accept 1"),
+    (6, "3 accept 0"),
+    (7, "3 close 3"),
+    (8, "3 socket seqpacket"),
+    (9, "3 open"),
+    (10, "3 recv 5 16 4"),
+    (11, "3 send 1 xxx 10"),
+    (12, "3 exit"),
 ];
 
-#[test]
-fn worked_words(rt: HostRuntime) -> Result<(), Fail> {
-    stand_for(&rt, &WORDS)?;
-    let connect = connect(&rt, 8, b"w3")?;
-    let send = send(&rt, 4, 5, &[Fd(4), Fd(4)])?;
-    stand_for(&rt, &[((1 << 33) + 13, connect), ((1 << 42) + 18, send)])?;
-    Ok(())
+/// The script has this event at this place.
+fn has<T: Abort + AllocGlobal>(rt: &T, script: &[Event], place: usize, line: &str) {
+    let is_there = match script.get(place) {
+        Some(event) => is_of_line(rt.alloc(), event, line),
+        None => false,
+    };
+    assert!(rt; is_there, "at {place}");
 }
 
-/// Places of a script, with the steps there.
-const DRAWN: [(usize, Step); 9] = [
-    (0, Step::Socket(SockType::Stream)),
-    (
-        4,
-        Step::Recv {
-            on: Fd(1),
-            max_bytes: 16,
-            max_fds: 4,
-        },
-    ),
-    (5, Step::Accept(Fd(1))),
-    (6, Step::Accept(Fd(0))),
-    (7, Step::Close(Fd(3))),
-    (8, Step::Socket(SockType::Seqpacket)),
-    (9, Step::Open),
-    (
-        10,
-        Step::Recv {
-            on: Fd(5),
-            max_bytes: 16,
-            max_fds: 4,
-        },
-    ),
-    (12, Step::Exit),
-];
-
-/// The script has these steps of worker 3 at these places.
-fn has(rt: &impl Abort, script: &[Event], steps: &[(usize, Step)]) {
-    for (place, wanted) in steps {
-        let is_so = script
-            .get(*place)
-            .is_some_and(|event| is_step(event, 3, wanted));
-        assert!(rt; is_so, "at {place}");
+/// The script has 13 events, with those that were drawn.
+fn has_drawn<T: Abort + AllocGlobal>(rt: &T, script: &[Event]) {
+    assert!(rt; script.len() == 13);
+    for (place, line) in &DRAWN {
+        has(rt, script, *place, line);
     }
 }
 
 /// The words were drawn by another program, from the reference code of the generator.
 #[test]
-fn drawn_script(rt: HostRuntime) -> Result<(), Fail> {
+fn drawn_script(rt: HostRuntime) -> Result<(), AllocError> {
     let script = make_script(rt.alloc(), 3, 4, 13, 7)?;
-    assert_eq!(rt; script.len(), 13);
-    has(&rt, &script, &DRAWN);
-    has(&rt, &script, &[(11, send(&rt, 1, 3, &[Fd(10)])?)]);
+    has_drawn(&rt, &script);
     Ok(())
 }
 

@@ -5,7 +5,6 @@ use scm_race::{LongRace, Race, RaceFault, RaceTotals};
 use std::alloc::Global;
 use std::process::Abort;
 use std::sync::Wait;
-use std::test::Fail;
 use std::thread::Threads;
 
 /// The outcome of a race: how many events its workers did, how many entries its log has, and how
@@ -81,31 +80,6 @@ fn four_workers(rt: HostRuntime) {
     }
 }
 
-/// The lines of a race.
-fn lines<R: Threads + Wait + Sync>(rt: &R, alloc: Global, race: Race) -> Result<String, RaceFault>
-    requires workers { (1 ≤ race.workers) × (race.workers ≤ 32) }
-    requires steps { (5 ≤ race.steps) × (race.steps ≤ 20000) }
-{
-    let outcome = race.run(rt, alloc)?;
-    let text = outcome.text(alloc);
-    // Dropped by a call, as above.
-    drop(outcome);
-    Ok(text?)
-}
-
-#[test]
-fn three_lines(rt: HostRuntime) -> Result<(), Fail> {
-    let race = Race {
-        workers: 4,
-        steps: 2_000,
-        seed: 7,
-        budget: 8,
-    };
-    let text = lines(&rt, rt.alloc(), race)?;
-    assert!(rt; text.as_str() == "steps 8000\naudit ok\nleft 0\n");
-    Ok(())
-}
-
 /// One allocation refused, the Nth (`tools/stress` refuses each in turn): there is no memory for
 /// the race, or an event of it is answered so.
 #[test]
@@ -137,20 +111,6 @@ fn long_race(workers: u32, steps: u32, checkpoint: u32) -> LongRace
         budget: 8,
     };
     LongRace { race, checkpoint }
-}
-
-/// Parts of one event of each worker, of parts that do not divide the steps, and of more events
-/// than there are.
-#[test]
-fn long_races(rt: HostRuntime) {
-    for (workers, steps, checkpoint) in [(1, 5, 1), (3, 50, 1), (4, 401, 100), (4, 400, 250_000)] {
-        let tally = RaceTotals {
-            steps: u64::from(workers * steps),
-            left: 0,
-        };
-        let end = long_race(workers, steps, checkpoint).run(&rt, rt.alloc());
-        assert!(rt; end == Ok(tally), "{end:?}");
-    }
 }
 
 /// One allocation refused, as above.

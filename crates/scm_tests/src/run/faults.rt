@@ -3,7 +3,6 @@ use super::streams::{AMPLE, Pace, PacedWriter, run_over, run_to};
 use scm_run::RunFault;
 use std::alloc::{AllocError, AllocGlobal, Global};
 use std::process::Abort;
-use std::test::Fail;
 
 /// The smallest cycle: a socket in its own queue, which a pass takes.
 const SCRIPT: &[u8] = b"spawn 1000 16
@@ -64,7 +63,7 @@ fn pace(at_once: usize, calls: usize) -> Pace {
 /// A read of the script fails, and this was written.
 fn fails_to_read<T: Abort + AllocGlobal>(rt: &T, reading: Pace, held: &[u8]) {
     let end = run_over(rt, SCRIPT, held, reading, AMPLE);
-    assert_eq!(rt; end, Err(RunFault::Read));
+    assert!(rt; end == Err(RunFault::Read));
 }
 
 /// A write of the script's replies fails, by an error or by taking no byte, and this was written.
@@ -76,13 +75,13 @@ fn fails_to_write<T: Abort + AllocGlobal>(rt: &T, writing: Pace, held: &[u8]) {
             takes_none,
         };
         let end = run_to(rt, SCRIPT, held, AMPLE, writer);
-        assert_eq!(rt; end, Err(RunFault::Write));
+        assert!(rt; end == Err(RunFault::Write));
     }
 }
 
 /// The script is run to its end over streams of this pace.
 fn ends_well<T: Abort + AllocGlobal>(rt: &T, reading: Pace, writing: Pace) {
-    assert_eq!(rt; run_over(rt, SCRIPT, REPLIES, reading, writing), Ok(6));
+    assert!(rt; run_over(rt, SCRIPT, REPLIES, reading, writing) == Ok(6));
 }
 
 /// How many bytes a call a reader gives, after how many calls it fails, and what was written then.
@@ -130,9 +129,9 @@ fn writes_that_fail(rt: HostRuntime) {
 fn a_write_that_fails_before_a_bad_line_is_told(rt: HostRuntime) {
     let script: &[u8] = b"spawn 1000 16\n1 open\n1 open\nwalk\n1 open\n";
     let cut = run_over(&rt, script, b"", AMPLE, pace(100, 0));
-    assert_eq!(rt; cut, Err(RunFault::Write));
+    assert!(rt; cut == Err(RunFault::Write));
     let told = run_over(&rt, script, b"pid 1\nfd 0\nfd 1\n", AMPLE, pace(100, 1));
-    assert_eq!(rt; told, Err(RunFault::Unreadable(4)));
+    assert!(rt; told == Err(RunFault::Unreadable(4)));
 }
 
 /// One byte a call is enough; and of what is written at once, a second write would fail.
@@ -158,23 +157,23 @@ fn much_text(alloc: Global) -> Result<(Vec<u8>, Vec<u8>), AllocError> {
 
 /// A script may come in thousands of reads, one byte each.
 #[test]
-fn thousands_of_reads(rt: HostRuntime) -> Result<(), Fail> {
+fn thousands_of_reads(rt: HostRuntime) -> Result<(), AllocError> {
     let (script, texts) = much_text(rt.alloc())?;
     let reading = pace(1, script.len().saturating_add(1));
     let done = run_over(&rt, script.as_slice(), texts.as_slice(), reading, AMPLE);
-    assert_eq!(rt; done, Ok(202));
+    assert!(rt; done == Ok(202));
     Ok(())
 }
 
 /// Lines that are read at once are written in 17 writes at most. If the first of them fails there
 /// is no second.
 #[test]
-fn writes_each_64_kb(rt: HostRuntime) -> Result<(), Fail> {
+fn writes_each_64_kb(rt: HostRuntime) -> Result<(), AllocError> {
     let (script, texts) = much_text(rt.alloc())?;
     let writing = pace(usize::MAX, 17);
     let done = run_over(&rt, script.as_slice(), texts.as_slice(), AMPLE, writing);
-    assert_eq!(rt; done, Ok(202));
+    assert!(rt; done == Ok(202));
     let end = run_over(&rt, script.as_slice(), b"", AMPLE, pace(usize::MAX, 0));
-    assert_eq!(rt; end, Err(RunFault::Write));
+    assert!(rt; end == Err(RunFault::Write));
     Ok(())
 }

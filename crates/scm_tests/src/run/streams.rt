@@ -101,8 +101,8 @@ pub fn run_to<T: Abort + AllocGlobal>(
     let mut output = Watched::new(writer);
     let end = run_all(rt.alloc(), &mut input, &mut output);
     assert!(rt; output.inner().held.as_slice() == texts);
-    assert_eq!(rt; input.failed(), end == Err(RunFault::Read));
-    assert_eq!(rt; output.failed(), end == Err(RunFault::Write));
+    assert!(rt; input.failed() == (end == Err(RunFault::Read)));
+    assert!(rt; output.failed() == (end == Err(RunFault::Write)));
     end
 }
 
