@@ -68,6 +68,16 @@ impl<R: Read> Read for Watched<R> {
     }
 }
 
+/// Returns whether a write of these bytes failed, or took none of some.
+fn is_failed_write(answer: &io::Result<usize>, buf: &[u8]) -> bool
+    ensures { result ≡ is_failed_write answer.now buf.now }
+{
+    match answer {
+        Ok(written) => *written == 0 && !buf.is_empty(),
+        Err(_) => true,
+    }
+}
+
 impl<W: Write> Write for Watched<W> {
     ghost contents = { λ w. W.contents w.inner };
 
@@ -79,10 +89,8 @@ impl<W: Write> Write for Watched<W> {
             ≡ (self.old.has_failed || is_failed_write result buf.now) }
     {
         let answer = self.inner.write(buf);
-        match &answer {
-            Ok(0) if !buf.is_empty() => self.has_failed = true,
-            Ok(_) => {}
-            Err(_) => self.has_failed = true,
+        if is_failed_write(&answer, buf) {
+            self.has_failed = true;
         }
         answer
     }
