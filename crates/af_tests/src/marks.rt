@@ -7,7 +7,6 @@ use af_desc::Files;
 use af_ledger::Place;
 use std::alloc::AllocError;
 use std::process::Abort;
-use std::test::Fail;
 
 /// A plain file more.
 fn file(rt: &impl Abort, files: &mut Files) -> Result<FileRef, AllocError> {
@@ -48,9 +47,9 @@ fn passes(rt: &impl Abort, files: &mut Files) -> Result<(), AllocError> {
 }
 
 #[test]
-fn a_pass_marks(rt: HostRuntime) -> Result<(), Fail> {
+fn a_pass_marks(rt: HostRuntime) -> Result<(), AllocError> {
     let mut files = Files::new(rt.alloc());
-    Ok(passes(&rt, &mut files)?)
+    passes(&rt, &mut files)
 }
 
 /// Drops the one descriptor of a file. Returns whether this freed the file.
@@ -72,9 +71,9 @@ fn free_or_list(rt: &impl Abort, files: &mut Files) -> Result<(), AllocError> {
 }
 
 #[test]
-fn a_last_close_frees(rt: HostRuntime) -> Result<(), Fail> {
+fn a_last_close_frees(rt: HostRuntime) -> Result<(), AllocError> {
     let mut files = Files::new(rt.alloc());
-    Ok(free_or_list(&rt, &mut files)?)
+    free_or_list(&rt, &mut files)
 }
 
 /// Closes one of two connected sockets, which is freed at once and hangs up the other.
@@ -89,9 +88,9 @@ fn close_one_end(rt: &impl Abort, files: &mut Files) -> Result<(), AllocError> {
 }
 
 #[test]
-fn a_last_close_frees_a_socket(rt: HostRuntime) -> Result<(), Fail> {
+fn a_last_close_frees_a_socket(rt: HostRuntime) -> Result<(), AllocError> {
     let mut files = Files::new(rt.alloc());
-    Ok(close_one_end(&rt, &mut files)?)
+    close_one_end(&rt, &mut files)
 }
 
 /// A file is made, at the second trial where the first found no room. It is not marked.

@@ -7,7 +7,6 @@ use af_base::limits::MAX_INO;
 use ordered_slab::OrderedSlab;
 use std::alloc::{AllocError, Global};
 use std::process::Abort;
-use std::test::Fail;
 
 /// One more than how many values come.
 const MANY: u64 = 5_000;
@@ -73,9 +72,9 @@ fn thousands(rt: &impl Abort, values: &mut OrderedSlab<u64>) -> Result<(), Alloc
 /// Under `rt try --test --fail-alloc N` the Nth allocation is refused: it is one of a reservation,
 /// which answers so, and none of a `push`, which could not.
 #[test]
-fn thousands_come_and_go(rt: HostRuntime) -> Result<(), Fail> {
+fn thousands_come_and_go(rt: HostRuntime) -> Result<(), AllocError> {
     let mut values = OrderedSlab::new(rt.alloc());
-    Ok(thousands(&rt, &mut values)?)
+    thousands(&rt, &mut values)
 }
 
 /// Adds values while there is room, and makes none. Removes each once this many were added after
@@ -103,7 +102,7 @@ fn come_into(alloc: Global, room: usize, stay: u64) -> Result<u64, AllocError> {
 /// There is room for a thousand, and many more are added, a few of them at once: the rows of the
 /// removed ones are packed, or there would be none left.
 #[test]
-fn rows_are_packed(rt: HostRuntime) -> Result<(), Fail> {
+fn rows_are_packed(rt: HostRuntime) -> Result<(), AllocError> {
     assert!(rt; come_into(rt.alloc(), 1_000, 5)? == 4_999);
     Ok(())
 }
@@ -111,7 +110,7 @@ fn rows_are_packed(rt: HostRuntime) -> Result<(), Fail> {
 /// The newest number leaves nothing behind: where there is room for few, thousands come and go, one
 /// at a time.
 #[test]
-fn the_newest_leaves_nothing(rt: HostRuntime) -> Result<(), Fail> {
+fn the_newest_leaves_nothing(rt: HostRuntime) -> Result<(), AllocError> {
     assert!(rt; come_into(rt.alloc(), 1, 0)? == 4_999);
     Ok(())
 }

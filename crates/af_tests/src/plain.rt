@@ -10,7 +10,6 @@ use af_base::listing::{
 use af_plain::{Kept, KeptFile, KeptUser, agrees};
 use std::alloc::{AllocError, Global};
 use std::process::Abort;
-use std::test::Fail;
 
 fn socket(alloc: Global, ino: u64, sent: &[Ino], waiting: &[Ino]) -> Result<ListedFile, AllocError>
     ensures ino { IfOk result (λ x. x.ino ≡ ino) }
@@ -123,7 +122,7 @@ fn are_the_recounts(rt: &impl Abort, listing: &Listing, kept: &mut Kept) {
 }
 
 #[test]
-fn one_number_at_a_time(rt: HostRuntime) -> Result<(), Fail> {
+fn one_number_at_a_time(rt: HostRuntime) -> Result<(), AllocError> {
     let mut kept = kept_counts(rt.alloc())?;
     let listing = crossed_listing(rt.alloc())?;
     are_the_recounts(&rt, &listing, &mut kept);
