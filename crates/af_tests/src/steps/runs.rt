@@ -7,7 +7,6 @@ use af_base::ids::{Fd, Pid, Uid};
 use af_steps::{Engine, RunStopped};
 use std::alloc::{AllocError, Global};
 use std::process::Abort;
-use std::test::Fail;
 
 /// A process starts, and opens and closes a number 50,000 times.
 fn rounds(alloc: Global) -> Result<Vec<Event>, AllocError> {
@@ -115,6 +114,6 @@ impl Trial for AllRounds {
 }
 
 #[test]
-fn one_reply_for_each_event(rt: HostRuntime) -> Result<(), Fail> {
-    Ok(on_new_engine(&rt, rt.alloc(), &AllRounds)?)
+fn one_reply_for_each_event(rt: HostRuntime) -> Result<(), AllocError> {
+    on_new_engine(&rt, rt.alloc(), &AllRounds)
 }

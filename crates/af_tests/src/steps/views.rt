@@ -5,7 +5,6 @@ use af_base::ids::{Ino, Pid, Uid};
 use af_steps::{Engine, FileInfo};
 use std::alloc::{AllocError, Global};
 use std::process::Abort;
-use std::test::Fail;
 
 /// File 1 is gone. Socket 2 listens; socket 3 is connected to 4, which waits there. Of a pair,
 /// socket 5 is in the queue of socket 6 twice.
@@ -111,6 +110,6 @@ impl Trial for Views {
 }
 
 #[test]
-fn views_of_an_engine(rt: HostRuntime) -> Result<(), Fail> {
-    Ok(on_new_engine(&rt, rt.alloc(), &Views)?)
+fn views_of_an_engine(rt: HostRuntime) -> Result<(), AllocError> {
+    on_new_engine(&rt, rt.alloc(), &Views)
 }
