@@ -482,6 +482,10 @@ fn next_in(rows: &[OrderRow], ino: Ino, at: usize) -> Option<(FileRef, usize)>
     ensures none { IfNone result
         ((q : ℕ) → ino < q → map.contains_key (live_of rows.now) q ≡ false) }
 {
+    // Mostly nothing is being packed.
+    if rows.is_empty() {
+        return None;
+    }
     let from = rows_up_to(rows, ino, at);
     let at = first_live(rows, from, rows.len());
     if at == rows.len() {

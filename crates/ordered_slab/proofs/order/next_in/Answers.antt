@@ -1,7 +1,7 @@
-use Rattle.std.proofs.Common.{◌≡◌, ◌≢◌, ◌<◌, ℕ, length, true, ◌∙◌, refl, sym, ap, subst, arith}
+use Rattle.std.proofs.Common.{rules, ◌≡◌, ◌≢◌, ◌<◌, ℕ, length, true, ◌∙◌, refl, sym, ap, subst, arith}
 use Rattle.std.specs.Prelude.{Option, Some, None, is_some}
 use Rattle.ordered_slab.specs.Rows.{row_at}
-use Rattle.ordered_slab.proofs.Rows.{held, at_place}
+use Rattle.ordered_slab.proofs.Rows.{held, at_place, nowhere}
 use Rattle.ordered_slab.proofs.Searches.{passed, read_here}
 use Rattle.ordered_slab.proofs.order.next_in.Goals as goal
 
@@ -42,3 +42,8 @@ returns-then-at-rows-clause-none c = λ q above.
     ap is_some (passed c.args.rows.now c.requires c.args.ino c.rows_up_to-from.result c.first_live-at.result
     c.rows_up_to-from.ensures.up_to
     c.first_live-at.ensures.dead q above (λ l. let e = c.if-at-rows.true in absurd (omega arith)))
+
+pub returns-then-is_empty-clause-none : goal.returns-then-is_empty-clause-none
+returns-then-is_empty-clause-none c = λ q above.
+    let none : length c.args.rows.now ≡ 0 = search (rules, arith) in
+    ap is_some (nowhere c.args.rows.now q (λ i l e. omega (arith, none, l)))
