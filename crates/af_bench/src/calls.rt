@@ -1,8 +1,10 @@
-//! Measures typed calls by an engine alone and by one behind a lock, and that lock alone.
+//! Measures typed calls by an engine alone and by one behind a lock, that lock alone, and calls of a
+//! layer.
 //!
 //! A process opens a plain file and closes it, by turns; behind a lock, one in each thread. Each
 //! run is over a fresh engine.
 
+use crate::layer::{self, Locking};
 use crate::runs::{Runs, print_times, refusal, time_since};
 use af_base::ids::{Fd, Pid, Uid};
 use af_layer::Shared;
@@ -26,13 +28,50 @@ struct Caller {
     is_done: bool,
 }
 
-/// Measures calls of an engine alone.
-pub fn measure_engine<R: Clock + Print>(rt: &R, alloc: Global, runs: Runs) -> io::Result<()> {
-    let mut times = Vec::new(alloc);
-    for _ in 0..runs.count {
-        times.push(time_of_engine(rt, alloc, runs.events)?)?;
+/// The calls that a run makes.
+#[derive(Clone, Copy)]
+pub enum Calls {
+    /// Calls of a layer from this many threads.
+    Layer(u32, Locking),
+    /// Calls of an engine behind a lock from this many threads.
+    Shared(u32),
+    /// Calls of an engine alone.
+    Engine,
+    /// The lock alone is taken and released.
+    Lock,
+}
+
+impl Calls {
+    /// Measures all runs, and prints what each took.
+    pub fn measure<R: Threads + Wait + Clock + Print + Sync>(
+        self,
+        rt: &R,
+        alloc: Global,
+        runs: Runs,
+    ) -> io::Result<()> {
+        let mut times = Vec::new(alloc);
+        for _ in 0..runs.count {
+            times.push(self.time(rt, alloc, runs.events)?)?;
+        }
+        print_times(rt, times.as_slice())
     }
-    print_times(rt, times.as_slice())
+
+    /// Returns how long a run takes, in nanoseconds.
+    fn time<R: Threads + Wait + Clock + Sync>(
+        self,
+        rt: &R,
+        alloc: Global,
+        events: usize,
+    ) -> io::Result<u128> {
+        match self {
+            Calls::Layer(threads, locking) => {
+                layer::time_of_run(rt, alloc, threads, locking, events)
+            }
+            Calls::Shared(threads) => time_of_shared(rt, alloc, threads, events),
+            Calls::Engine => time_of_engine(rt, alloc, events),
+            Calls::Lock => time_of_lock(rt, events),
+        }
+    }
 }
 
 /// Returns how long a run over a new engine takes, in nanoseconds.
@@ -64,20 +103,6 @@ fn calls_engine(engine: &mut Engine, pid: Pid, events: usize) -> bool {
         }
     }
     true
-}
-
-/// Measures calls of an engine behind a lock, from this many threads.
-pub fn measure_shared<R: Threads + Wait + Clock + Print + Sync>(
-    rt: &R,
-    alloc: Global,
-    threads: u32,
-    runs: Runs,
-) -> io::Result<()> {
-    let mut times = Vec::new(alloc);
-    for _ in 0..runs.count {
-        times.push(time_of_shared(rt, alloc, threads, runs.events)?)?;
-    }
-    print_times(rt, times.as_slice())
 }
 
 /// Returns how long a run from this many threads takes, in nanoseconds.
@@ -160,16 +185,12 @@ fn calls_shared<R: Wait>(rt: &R, shared: &Shared, pid: Pid, events: usize) -> bo
     true
 }
 
-/// Measures a lock that is taken and released, with a number under it.
-pub fn measure_lock<R: Wait + Clock + Print>(rt: &R, alloc: Global, runs: Runs) -> io::Result<()> {
+/// Returns how long a lock with a number under it is taken and released, in nanoseconds.
+fn time_of_lock<R: Wait + Clock>(rt: &R, events: usize) -> io::Result<u128> {
     let mutex = Mutex::new(0u64);
-    let mut times = Vec::new(alloc);
-    for _ in 0..runs.count {
-        let start = Instant::now(rt)?;
-        lock_often(rt, &mutex, runs.events);
-        times.push(start.elapsed(rt)?.as_nanos())?;
-    }
-    print_times(rt, times.as_slice())
+    let start = Instant::now(rt)?;
+    lock_often(rt, &mutex, events);
+    time_since(rt, start, true)
 }
 
 /// Takes the lock and releases it this many times.

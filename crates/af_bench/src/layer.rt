@@ -3,12 +3,12 @@
 //! Each run is over a fresh layer, with room for all that it logs. In each thread a process of its
 //! own opens a plain file and closes it, by turns.
 
-use crate::runs::{Runs, print_times, refusal, time_since};
+use crate::runs::{refusal, time_since};
 use af_base::events::{Event, Step};
 use af_base::ids::{Fd, Pid, Uid};
 use af_layer::{Layer, Seat};
 use std::alloc::Global;
-use std::io::{self, Print};
+use std::io;
 use std::sync::Wait;
 use std::thread::{self, Threads};
 use std::time::{Clock, Instant};
@@ -37,23 +37,8 @@ struct Caller {
     is_done: bool,
 }
 
-/// Measures calls from this many threads, each of which does the events of a run.
-pub fn measure<R: Threads + Wait + Clock + Print + Sync>(
-    rt: &R,
-    alloc: Global,
-    threads: u32,
-    locking: Locking,
-    runs: Runs,
-) -> io::Result<()> {
-    let mut times = Vec::new(alloc);
-    for _ in 0..runs.count {
-        times.push(time_of_run(rt, alloc, threads, locking, runs.events)?)?;
-    }
-    print_times(rt, times.as_slice())
-}
-
-/// Returns how long a run takes, in nanoseconds.
-fn time_of_run<R: Threads + Wait + Clock + Sync>(
+/// Returns how long a run of this many events in each of so many threads takes, in nanoseconds.
+pub fn time_of_run<R: Threads + Wait + Clock + Sync>(
     rt: &R,
     alloc: Global,
     threads: u32,

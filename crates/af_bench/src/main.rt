@@ -14,6 +14,7 @@ mod layer;
 mod runs;
 mod script;
 
+use crate::calls::Calls;
 use crate::layer::Locking;
 use crate::runs::Runs;
 use std::{env, io};
@@ -26,14 +27,8 @@ const BATCH: usize = 16;
 enum Benchmark {
     /// Measures a script, without its first lines, this many.
     Script(usize, Runs),
-    /// Measures calls of a layer from this many threads.
-    Layer(u32, Locking, Runs),
-    /// Measures calls of an engine behind a lock from this many threads.
-    Shared(u32, Runs),
-    /// Measures calls of an engine alone.
-    Engine(Runs),
-    /// Measures the lock alone.
-    Lock(Runs),
+    /// Measures these calls.
+    Calls(Calls, Runs),
 }
 
 impl Benchmark {
@@ -53,21 +48,22 @@ impl Benchmark {
     /// Returns the task of this form, which names nothing but its runs.
     fn of_one_thread(form: &str, runs: Runs) -> Option<Benchmark> {
         match form {
-            "engine" => Some(Benchmark::Engine(runs)),
-            "lock" => Some(Benchmark::Lock(runs)),
+            "engine" => Some(Benchmark::Calls(Calls::Engine, runs)),
+            "lock" => Some(Benchmark::Calls(Calls::Lock, runs)),
             _ => None,
         }
     }
 
     /// Returns the task of this form, which names a number before its runs.
     fn of_threads(form: &str, first: &str, runs: Runs) -> Option<Benchmark> {
-        match form {
-            "script" => Some(Benchmark::Script(first.parse().ok()?, runs)),
-            "layer" => Some(Benchmark::Layer(first.parse().ok()?, Locking::Calls, runs)),
-            "batches" => Some(Benchmark::Layer(first.parse().ok()?, Locking::Batches(BATCH), runs)),
-            "shared" => Some(Benchmark::Shared(first.parse().ok()?, runs)),
-            _ => None,
-        }
+        let calls = match form {
+            "script" => return Some(Benchmark::Script(first.parse().ok()?, runs)),
+            "layer" => Calls::Layer(first.parse().ok()?, Locking::Calls),
+            "batches" => Calls::Layer(first.parse().ok()?, Locking::Batches(BATCH)),
+            "shared" => Calls::Shared(first.parse().ok()?),
+            _ => return None,
+        };
+        Some(Benchmark::Calls(calls, runs))
     }
 }
 
@@ -78,21 +74,7 @@ fn main(rt: HostRuntime) -> io::Result<()> {
     }
     match Benchmark::of(words.as_slice()) {
         Some(Benchmark::Script(setup, runs)) => script::measure_input(&rt, setup, runs),
-        Some(Benchmark::Layer(threads, locking, runs)) => layer::measure(
-            &rt,
-            rt.alloc(),
-            threads,
-            locking,
-            runs,
-        ),
-        Some(Benchmark::Shared(threads, runs)) => calls::measure_shared(
-            &rt,
-            rt.alloc(),
-            threads,
-            runs,
-        ),
-        Some(Benchmark::Engine(runs)) => calls::measure_engine(&rt, rt.alloc(), runs),
-        Some(Benchmark::Lock(runs)) => calls::measure_lock(&rt, rt.alloc(), runs),
+        Some(Benchmark::Calls(calls, runs)) => calls.measure(&rt, rt.alloc(), runs),
         None => usage(),
     }
 }
