@@ -1,5 +1,5 @@
 -- A message put into the queue of a socket.
-use Rattle.std.proofs.Common.{◌≡◌, ◌<◌, ◌≤◌, ◌+◌, ℕ, false, List, [], length, refl, sym, ap, ◌∙◌, subst}
+use Rattle.std.proofs.Common.{◌≡◌, ◌<◌, ◌≤◌, ◌+◌, ℕ, false, [], length, refl, sym, ap, ◌∙◌, subst}
 use Rattle.std.specs.Prelude.{Option, Some, None, IsTrue, is_none, unwrap_or}
 use Rattle.std.specs.FinMap as map
 use Rattle.std.specs.List.{Contains}

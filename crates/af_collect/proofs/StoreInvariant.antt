@@ -1,7 +1,6 @@
 -- The invariant of a store: its counts are exact, and the invariant of the pass holds.
 use Rattle.std.proofs.Common.{◌≡◌, ℕ, Bool, ap, sym, ◌∙◌, subst}
 use Rattle.std.specs.Prelude.{Err, Ok, OnErr, OnOk, Result}
-use Rattle.std.specs.FinMap as map
 use Rattle.af_base.specs.World.{AsSocket, Socket, World}
 use Rattle.af_base.specs.Changes.{with_socket}
 use Rattle.af_base.specs.Places.{contents}

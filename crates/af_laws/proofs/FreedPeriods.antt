@@ -1,12 +1,12 @@
 -- That what two periods tell of freed files accounts for both.
-use Rattle.std.proofs.Common.{◌≡◌, ◌≤◌, ◌<◌, ℕ, ◌+◌, true, false, inl, inr, sym, ap, ◌∙◌, cond, ◌++◌, arith}
+use Rattle.std.proofs.Common.{◌≡◌, ◌≤◌, ◌<◌, ℕ, inl, inr, sym, ap, ◌∙◌, cond, arith}
 use Rattle.std.specs.Prelude.{nat_lt}
 use Rattle.std.specs.FinMap as map
 use Rattle.std.proofs.lemmas.Bool.{cases_Bool, le-ltb, lt-ltb, ltb-false, ltb-true}
 use Rattle.std.proofs.lemmas.List.Sums.{sum_by-append}
-use Rattle.af_base.specs.Counts.{count_in, one}
+use Rattle.af_base.specs.Counts.{one}
 use Rattle.af_base.specs.Told.{was_given}
-use Rattle.af_base.specs.World.{Since, World}
+use Rattle.af_base.specs.World.{Since}
 use Rattle.af_laws.specs.Telling.{PeriodsJoin}
 
 -- A number that was given out in the first period was given out in both.

@@ -1,13 +1,11 @@
 -- The numbers kept where several files gain or lose a place in a queue at once.
 use Rattle.std.proofs.Common.{◌≡◌, ◌<◌, ℕ, ◌+◌, ◌-◌, Bool, true, false, List, [], ◌∷◌, ◌++◌, length, length-append, suc, add-one, drop-cons, refl, sym, ap, ◌∙◌, subst, cond, nat_eq, arith, take, drop}
-use Rattle.std.specs.Prelude.{IsTrue, None, Option, Some, is_some, slice_index_or, unwrap_or}
-use Rattle.std.specs.Cmp.{nat_cmp_total, nat_eq_equiv}
-use Rattle.std.specs.FinMap as map
-use Rattle.std.specs.FinMap.{nat_cmp-IsAntisymmetric, same_map}
+use Rattle.std.specs.Prelude.{IsTrue, None, Option, Some, slice_index_or}
+use Rattle.std.specs.Cmp.{nat_eq_equiv}
 use Rattle.std.specs.List.{Contains, list_any}
 use Rattle.std.specs.Map.{keys_of, lookup, set_value}
 use Rattle.std.specs.Option.{option_map_or}
-use Rattle.std.proofs.lemmas.Bool.{eqb-true, false≢true}
+use Rattle.std.proofs.lemmas.Bool.{eqb-true}
 use Rattle.std.proofs.lemmas.List.{take-append-drop, take_more}
 use Rattle.std.proofs.lemmas.Map.{lookup-set_value}
 use Rattle.std.proofs.lemmas.Map.Steps.{set_value_same}
@@ -17,8 +15,6 @@ use Rattle.af_base.proofs.Elements.{Contains-first, Contains-later}
 use Rattle.af_base.proofs.PlacesAndCounts.{count-cons, count-length}
 use Rattle.af_base.proofs.Lookups.{itself, some_is}
 use Rattle.af_ledger.specs.Tally.{CanDrop, CanDropAll, CanHold, CanHoldAll, Tally, charge_of, charged_by, count_of, freed_by, has_count, is_user, recharged, with_ref, with_refs, without_ref, without_refs}
-use Rattle.af_ledger.specs.Counted.{uncounted}
-use Rattle.af_ledger.specs.declared.count.Count.{Count}
 use Rattle.af_ledger.specs.declared.place.Place.{Place}
 use Rattle.af_ledger.specs.declared.place.Place.TheVariants.{Queue}
 use Rattle.af_ledger.proofs.Laws.{charge-queued, charge-unqueued, counted-there, has-dropped, has-held, inflight-queued, inflight-unqueued, tabled-queued, tabled-unqueued, total-queued, total-unqueued, users-dropped, users-held, waiting-queued, waiting-unqueued}

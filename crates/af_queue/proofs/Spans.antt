@@ -200,11 +200,6 @@ pub whole-rest : (q : List Message) (n : ℕ) → 0 < n → HaveBytes q → opti
 whole-rest [] n some have e = sym (ap (λ t. t.rest) (stream-is [] n some have))
 whole-rest (m ∷ q) n some have e = sym (ap (λ t. t.rest) (stream-is (m ∷ q) n some have) ∙ cut-whole m q (stream_cut n (m ∷ q)) have.1 (sym e))
 
--- Where it is not so, something is taken.
-pub part-some : (q : List Message) (n : ℕ) → 0 < n → HaveBytes q → ¬ (option_map_or (λ m. length m.bytes) (slice_get q 0) 0 ≡ stream_cut n q) → 0 < stream_cut n q
-part-some [] n some have other = absurd (other refl)
-part-some (m ∷ q) n some have other = stream_cut-some n m q some have
-
 -- The copied and cut bytes are those received.
 pub part-received : (q : List Message) (n k : ℕ) (bytes files : List ℕ) (user : ℕ) → 0 < n → HaveBytes q → k ≡ stream_cut n q → bytes ≡ take k (joined q) → files ≡ option_map_or (λ m. m.attached) (message_at k q) [] → user ≡ sender_at k q
     → record { message = record { bytes = bytes; attached = files; user = user }; trunc = false } ≡ received Stream q n

@@ -11,7 +11,7 @@ use Rattle.af_base.specs.declared.events.Reply.TheVariants as reply
 use Rattle.af_base.specs.Pass.{Machine}
 use Rattle.af_base.specs.Run.{fresh}
 use Rattle.af_layer.specs.Audit.{AreEmptied, IsWholeBook, list_at, nobody, number_at}
-use Rattle.af_layer.specs.Drive.{Collects, Driven, Made, Script, Turned, WentOn, Work, events_of}
+use Rattle.af_layer.specs.Drive.{Collects, Driven, Made, Script, Turned, Work, events_of}
 use Rattle.af_layer.specs.Log.{BookView, Entry, IsLegal, IsLegalFrom, Pair, of_seat}
 use Rattle.af_layer.specs.Seats.{SeatView}
 use Rattle.af_layer.proofs.JoinedLogs.{legal-append, part-append}

@@ -1,13 +1,11 @@
 -- The scripts and the works of a race: their number, and their positions.
-use Rattle.std.proofs.Common.{◌≡◌, ◌<◌, ◌≤◌, ◌+◌, ◌-◌, ◌++◌, ℕ, zero, suc, List, [], ◌∷◌, add-one, ap, arith, inl, inr, length, length-append, map, refl, sym, subst, ◌∙◌, slice_index_or, append-nil, append_assoc, Global}
+use Rattle.std.proofs.Common.{◌≡◌, ◌<◌, ◌+◌, ◌++◌, ℕ, zero, suc, List, [], ◌∷◌, add-one, ap, arith, inl, inr, length, length-append, map, refl, sym, subst, ◌∙◌, slice_index_or, append-nil, append_assoc, Global}
 use Rattle.std.specs.Prelude.{Some, Vec, slice_get}
 use Rattle.std.proofs.lemmas.Bool.{cases_eq}
 use Rattle.std.proofs.lemmas.Simd.{map-map}
 use Rattle.std.proofs.lemmas.List.{get_or-map, get_or_append_left, get_or_push, length-map}
 use Rattle.std.proofs.lemmas.Option.{slice_get-get_or}
 use Rattle.af_base.specs.declared.events.Event.{Event}
-use Rattle.af_base.specs.declared.events.Event.TheVariants as event
-use Rattle.af_base.specs.declared.events.Step.TheVariants as step
 use Rattle.af_base.specs.declared.events.Reply.TheVariants as reply
 use Rattle.af_layer.specs.declared.workers.Turns.{Turns}
 use Rattle.af_layer.specs.Drive.{Collects, Script, Work, works_of}

@@ -10,7 +10,7 @@ use Rattle.af_queue.specs.Queued.{AreWithin}
 use Rattle.af_queue.specs.TakenView.{TakenView, received}
 use Rattle.af_queue.specs.Streams.{stream_cut}
 use Rattle.af_queue.proofs.Chains.{path_within}
-use Rattle.af_queue.proofs.Spans.{front-cut, front-filled, have-bytes, part-filled, part-some, stream-is, whole-received, whole-rest}
+use Rattle.af_queue.proofs.Spans.{front-cut, front-filled, have-bytes, part-filled, stream-is, whole-received, whole-rest}
 use Rattle.af_queue.proofs.pool.take_stream.Goals as goal
 
 -- How many bytes the first message has.

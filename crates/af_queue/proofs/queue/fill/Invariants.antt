@@ -1,5 +1,5 @@
 -- The first files are there, as far as they fit.
-use Rattle.std.proofs.Common.{◌≡◌, ◌≤◌, ◌+◌, ◌++◌, length, take}
+use Rattle.std.proofs.Common.{◌≡◌, ◌≤◌, ◌++◌, length, take}
 use Rattle.af_queue.specs.declared.queue.TheConstants.{BATCH}
 use Rattle.af_queue.proofs.queue.fill.Given as goal
 

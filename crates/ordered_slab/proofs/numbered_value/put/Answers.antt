@@ -1,4 +1,4 @@
-use Rattle.std.proofs.Common.{sym, ap, refl, ◌∙◌}
+use Rattle.std.proofs.Common.{sym, ap, ◌∙◌}
 use Rattle.std.specs.FinMap as map
 use Rattle.ordered_slab.proofs.SlabValues.{put_values, put_in_place}
 use Rattle.ordered_slab.proofs.numbered_value.put.Goals as goal

@@ -1,4 +1,4 @@
-use Rattle.std.proofs.Common.{rules, ◌≡◌, ◌≤◌, ◌<◌, ◌-◌, ℕ, List, length, ap, ◌∙◌, subst, arith}
+use Rattle.std.proofs.Common.{rules, ◌≡◌, ◌≤◌, ◌<◌, ◌-◌, ℕ, List, length, ap, arith}
 use Rattle.ordered_slab.specs.OrderView.{OrderRowView}
 use Rattle.ordered_slab.specs.Rows.{row_at, Rise}
 use Rattle.ordered_slab.proofs.Searches.{climb, read_here}

@@ -1,6 +1,5 @@
 use Rattle.std.proofs.Common.{rules, ◌≡◌, ◌+◌, ap, ◌∙◌}
 use Rattle.std.specs.FinMap as finmap
-use Rattle.af_base.specs.Pass.{Machine}
 use Rattle.af_layer.specs.Log.{BookView}
 use Rattle.scm_race.specs.Parts.{IsOfEnd}
 use Rattle.scm_race.proofs.Parts.{is-part}

@@ -1,4 +1,4 @@
-use Rattle.std.proofs.Common.{rules, ap, refl}
+use Rattle.std.proofs.Common.{rules, refl}
 use Rattle.af_ledger.specs.Tally.{kept_of}
 use Rattle.af_collect.proofs.Exact.{exact-empty, exact-same}
 use Rattle.af_collect.proofs.holdings.Holdings.new.Goals as goal

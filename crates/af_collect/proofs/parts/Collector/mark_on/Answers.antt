@@ -1,4 +1,4 @@
-use Rattle.std.proofs.Common.{false, ap, sym, subst, ◌∙◌}
+use Rattle.std.proofs.Common.{ap, sym, subst, ◌∙◌}
 use Rattle.af_mark.specs.MarksView.{MarksView}
 use Rattle.af_collect.specs.Keeping.{PassInvariant}
 use Rattle.af_collect.specs.declared.parts.Collector.{Collector}

@@ -1,4 +1,4 @@
-use Rattle.std.proofs.Common.{◌≡◌, ◌≤◌, ◌+◌, ◌-◌, ℕ, arith, refl, subst, ◌∙◌}
+use Rattle.std.proofs.Common.{◌≤◌, ◌+◌, ◌-◌, arith, refl, subst, ◌∙◌}
 use Rattle.af_base.specs.Reached.{IsGarbageCount}
 use Rattle.af_collect.specs.Purged.{ArePurged}
 use Rattle.af_collect.proofs.PassChanges.{counted_all, none_tabled}

@@ -8,7 +8,7 @@ use Rattle.af_ledger.specs.declared.place.Place.TheVariants.{Queue}
 use Rattle.af_ledger.proofs.ManyPlaces.{users-held_all}
 use Rattle.af_mark.specs.MarksView.{is_marked}
 use Rattle.af_collect.specs.HoldingsView.{HoldingsView}
-use Rattle.af_collect.proofs.Exact.{exact-same, world-is}
+use Rattle.af_collect.proofs.Exact.{world-is}
 use Rattle.af_collect.proofs.Sends.{can-put, exact-put}
 use Rattle.af_collect.specs.Keeping.{NotBegunGarbage, below}
 use Rattle.af_collect.proofs.SocketChanges.{covers_push, moves_push}

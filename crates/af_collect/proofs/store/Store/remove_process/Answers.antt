@@ -3,7 +3,6 @@ use Rattle.std.specs.Prelude.{Some}
 use Rattle.af_base.specs.Changes.{remove_process}
 use Rattle.af_base.specs.Places.{table_at}
 use Rattle.af_base.specs.World.{World}
-use Rattle.af_ledger.specs.Tally.{kept_of}
 use Rattle.af_mark.specs.MarksView.{is_marked}
 use Rattle.af_table.proofs.Tables.{remove-none}
 use Rattle.af_collect.specs.HoldingsView.{HoldingsView}

@@ -1,5 +1,4 @@
 use Rattle.std.proofs.Common.{map as mapped, ◌∙◌, ◌≡◌, ap, refl, subst, sym}
-use Rattle.std.specs.FinMap as map
 use Rattle.std.specs.List.{zip}
 use Rattle.std.specs.Map.{keys_of}
 use Rattle.af_base.specs.Changes.{install_all, with_queue, with_socket}

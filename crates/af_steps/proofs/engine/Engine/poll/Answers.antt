@@ -1,4 +1,4 @@
-use Rattle.std.proofs.Common.{rules, ap, subst}
+use Rattle.std.proofs.Common.{rules, subst}
 use Rattle.af_base.specs.Pass.{Machine}
 use Rattle.af_base.specs.World.{IsLive}
 use Rattle.af_steps.specs.Found.{HasNumber}

@@ -1,4 +1,4 @@
-use Rattle.std.proofs.Common.{rules, ◌≡◌, ◌≤◌, ℕ, false, ap, ◌∙◌}
+use Rattle.std.proofs.Common.{rules, ◌≤◌, ap, ◌∙◌}
 use Rattle.std.specs.Prelude.{vec_len}
 use Rattle.std.proofs.lemmas.Result.{on_err_weaker}
 use Rattle.af_base.specs.declared.limits.TheConstants.{MAX_NOFILE}

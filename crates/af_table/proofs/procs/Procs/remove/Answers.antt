@@ -1,4 +1,4 @@
-use Rattle.std.proofs.Common.{◌≡◌, ap, nat_eq, subst, sym, ◌∙◌, None}
+use Rattle.std.proofs.Common.{ap, nat_eq, subst, sym, ◌∙◌, None}
 use Rattle.std.specs.Prelude.{IfSome, is_some}
 use Rattle.std.specs.FinMap as map
 use Rattle.std.specs.HashMap as hash

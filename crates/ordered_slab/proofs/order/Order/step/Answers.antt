@@ -1,4 +1,4 @@
-use Rattle.std.proofs.Common.{rules, ◌≡◌, ◌<◌, ◌+◌, ◌++◌, [], ◌∷◌, ◌∙◌, length, set, refl, sym, ap, subst, arith}
+use Rattle.std.proofs.Common.{rules, ◌≡◌, ◌<◌, ◌+◌, ◌++◌, [], ◌∷◌, ◌∙◌, length, set, sym, ap, subst, arith}
 use Rattle.std.specs.Prelude.{Some}
 use Rattle.ordered_slab.specs.Rows.{live_of, AreRows, IsLiveAt}
 use Rattle.ordered_slab.proofs.Searches.{read_here, read_number, row_is}

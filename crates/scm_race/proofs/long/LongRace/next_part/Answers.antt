@@ -1,7 +1,6 @@
 use Rattle.std.proofs.Common.{rules, ◌≡◌, ◌+◌, ap, length, map, subst, sym, vec_len, ◌∙◌}
 use Rattle.std.proofs.lemmas.List.{length-map}
 use Rattle.std.proofs.lemmas.Result.{IfOk-weaker}
-use Rattle.af_layer.specs.Log.{BookView}
 use Rattle.scm_race.specs.Parts.{IsOfPart, IsPart}
 use Rattle.scm_race.specs.Race.{worker_steps}
 use Rattle.scm_race.proofs.Parts.{next-part}
