@@ -1,4 +1,4 @@
--- A receive: its files come into the table first, and then its places in the queue go.
+-- A receive: its files come into the table, and its places in the queue go.
 use Rattle.std.proofs.Common.{◌≡◌, ◌<◌, ℕ, false, not, List, map, sym, ap, subst}
 use Rattle.std.specs.Prelude.{IsTrue, is_none, unwrap_or}
 use Rattle.std.specs.List.{Contains, zip}
@@ -49,14 +49,14 @@ module _ (w : World) (s n : ℕ) (k : Tally) (h : IsExact w k) (some : 0 < n) (s
   pub received-live : (f : ℕ) → Contains m.attached f → IsLive w f
   received-live = live-taken w s from m.attached rest h.whole (is-socket w s socket) shed.leaves
 
+  -- Its places in the queue can go.
+  pub can-drop-received : CanDropAll m.user m.attached k
+  can-drop-received = can-drop-all w s m rest from k (is-socket w s socket) shed h.agrees
+
   module _ (p : ℕ) (ns : List ℕ) (there : IsTrue (finmap.contains_key w.processes p)) (lowest : (j : ℕ) × (ns ≡ lowest_free j (process_at w p))) where
     -- With its files in the table all is exact.
     pub exact-tabled : IsExact (tabled w p ns m.attached) (counted k ns m.attached)
     exact-tabled = exact-filled w p (process_at w p) ns m.attached k (process-there w p (ap not there)) (subst (AreFree (process_at w p)) (sym lowest.1) (free-lowest_free lowest.0 (process_at w p))) received-live h
-
-    -- With its files in the table, its places in the queue can go.
-    pub can-drop-received : CanDropAll m.user m.attached (counted k ns m.attached)
-    can-drop-received = can-drop-all (tabled w p ns m.attached) s m rest from _ (is-socket w s socket) shed exact-tabled.agrees
 
     -- Without them all is exact.
     pub exact-received : IsExact (with_queue (tabled w p ns m.attached) s rest) (without_refs (Queue m.user) m.attached (counted k ns m.attached))

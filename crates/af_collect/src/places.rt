@@ -26,11 +26,11 @@ ghost use Rattle.af_ledger.specs.declared.place.Place.TheVariants.{Table};
 ghost use Rattle.af_mark.specs.MarksView.{is_unmarked};
 ghost use Rattle.af_queue.specs.TakenView.{nothing_received};
 
-use crate::messages::{charge_message, uncharge_message};
+use crate::messages::charge_message;
 use crate::progress::{PassProgress, Stage};
 use crate::shading::shade_taken;
 use crate::store::Store;
-use crate::tables::table_in_all;
+use crate::tables::{receive_all, table_in_all};
 use af_base::ids::{Fd, FileRef, Pid};
 use af_base::limits::{MAX_INFLIGHT, MAX_MESSAGES};
 use af_desc::Files;
@@ -227,11 +227,12 @@ impl Store {
         let places = &mut self.parts.places;
         places.files.take(socket, max, taken)?;
         let attached = taken.attached();
-        // Into the table first, so that no file waits in between.
-        table_in_all(&mut places.procs, &mut places.files, pid, fds, attached);
-        uncharge_message(
+        receive_all(
+            &mut places.procs,
             &mut places.files,
             &mut places.ledger,
+            pid,
+            fds,
             taken.user(),
             attached,
         );

@@ -161,7 +161,7 @@ impl Store {
         self.parts.shade_embryo(listener);
         let places = &mut self.parts.places;
         let embryo = places.files.dequeue(listener).unwrap();
-        places.files.move_to_table(&embryo);
+        places.files.move_to_table(&Place::Backlog, &embryo);
         places.procs.install(pid, fd, embryo);
     }
 }

@@ -5,14 +5,16 @@ ghost use Rattle.std.specs.List.{All, Contains, zip};
 ghost use Rattle.std.specs.FinMap as map;
 ghost use Rattle.af_base.specs.Changes.{add_process, remove_process};
 ghost use Rattle.af_base.specs.World.{World};
-ghost use Rattle.af_ledger.specs.Tally.{LedgerView, count_in_map, kept_of, with_refs};
+ghost use Rattle.af_ledger.specs.Tally.{CanDropAll, LedgerView, count_in_map, kept_of, with_refs};
+ghost use Rattle.af_ledger.specs.Tally.{without_refs};
+ghost use Rattle.af_ledger.specs.declared.place.Place.TheVariants.{Queue};
 ghost use Rattle.af_collect.specs.Agreement.{IsExact, Joins};
 ghost use Rattle.af_collect.specs.HoldingsView.{filled};
 ghost use Rattle.af_table.specs.Procs.{row_in};
 
-use af_base::ids::{Fd, FileRef, Pid};
+use af_base::ids::{Fd, FileRef, Pid, Uid};
 use af_desc::Files;
-use af_ledger::Place;
+use af_ledger::{Ledger, Place};
 use af_table::{Process, Procs};
 
 /// Installs files at these descriptors of a known process, in order, as long as there are both.
@@ -45,6 +47,50 @@ pub fn table_in_all(
     let process = procs.find_mut(pid).unwrap();
     for (fd, file) in fds.iter().zip(attached) {
         files.hold(&Place::Table, file);
+        process.install(*fd, file.duplicate());
+    }
+}
+
+/// Moves the files of a received message from a queue to these descriptors of a known process, in
+/// order, as long as there are both. Drops the places of the other files, and the user's charge for
+/// all. Each descriptor has room.
+#[inline(always)]
+pub fn receive_all(
+    procs: &mut Procs,
+    files: &mut Files,
+    ledger: &mut Ledger,
+    pid: Pid,
+    fds: &[Fd],
+    user: Uid,
+    attached: &[FileRef],
+)
+    requires there { IsTrue (map.contains_key procs.old.processes pid) }
+    requires row { All (λ n. n < row_in procs.old.rows pid) fds.now }
+    requires fits { (f : ℕ)
+        → (count_in_map files.old.counts f).tabled + length attached.now < 2 ^ 31 }
+    requires queued { CanDropAll user attached.now (kept_of files.old.counts ledger.old) }
+    ensures processes { procs.new.processes
+        ≡ filled procs.old.processes pid (zip fds.now attached.now) }
+    ensures rows { procs.new.rows ≡ procs.old.rows }
+    ensures next { procs.new.next_pid ≡ procs.old.next_pid }
+    ensures kept { kept_of files.new.counts ledger.new
+        ≡ without_refs (Queue user) attached.now (with_refs Place.Table
+        (mapped (λ e. e.1) (zip fds.now attached.now)) (kept_of files.old.counts ledger.old)) }
+    ensures rest { files.new ≡ record files.old { counts = files.new.counts } }
+{
+    if attached.is_empty() {
+        return;
+    }
+    ledger.uncharge(user, attached.len() as u64);
+    let process = procs.find_mut(pid).unwrap();
+    let mut free = fds.iter();
+    for file in attached {
+        let Some(fd) = free.next() else {
+            files.drop_one(&Place::Queue(user), file);
+            continue;
+        };
+        // A file that moves is referenced throughout.
+        files.move_to_table(&Place::Queue(user), file);
         process.install(*fd, file.duplicate());
     }
 }

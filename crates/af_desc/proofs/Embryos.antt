@@ -16,6 +16,7 @@ use Rattle.af_ledger.specs.Tally.{count_in_map}
 use Rattle.af_ledger.specs.declared.count.Count.{Count}
 use Rattle.af_ledger.specs.declared.place.Place.{Place}
 use Rattle.af_ledger.specs.declared.place.Place.TheVariants.{Backlog, Queue, Table}
+use Rattle.af_ledger.proofs.Unreferenced.{counted-tabled}
 use Rattle.af_desc.specs.FilesView.{AreEmbryos, with_embryo, without_embryo}
 
 -- How many backlogs a file's count has.
@@ -57,18 +58,14 @@ module _ (m : Map Count) (f : ℕ) where
   pub embryos-entered : (p : Place) (n k : ℕ) → k ≡ with_embryo p n → AreEmbryos m n → AreEmbryos (map.insert m f (more p uncounted)) k
   embryos-entered p n k is h = subst (AreEmbryos (map.insert m f (more p uncounted))) (sym is) (embryos-more uncounted (omega arith) p n h)
 
-  -- A place in a backlog less.
-  embryos-left : (c : Count) → c.waiting + 1 ≡ (count_in_map m f).waiting → (n : ℕ) → AreEmbryos m n → AreEmbryos (map.insert m f c) (without_embryo Backlog n)
-  embryos-left c left n h = by (nat_lt n (2 ^ 64 - 1)) refl where
-    by : (b : Bool) → nat_lt n (2 ^ 64 - 1) ≡ b → AreEmbryos (map.insert m f c) (cond b (n - 1) n)
-    by true e low = let most = h (ltb-true n (2 ^ 64 - 1) e) in omega (arith, most, left, changed c)
+  -- A place less, which there is; as many of these are in backlogs as the file had.
+  embryos-fewer : (c : Count) → c.waiting ≡ (count_in_map m f).waiting → (p : Place) (n : ℕ) → IsCounted p c → AreEmbryos m n → AreEmbryos (map.insert m f (fewer p c)) (without_embryo p n)
+  embryos-fewer c same Table n some h = λ low. let most = h low in omega (arith, most, same, changed (fewer Table c))
+  embryos-fewer c same (Queue u) n some h = λ low. let most = h low in omega (arith, most, same, changed (fewer (Queue u) c))
+  embryos-fewer c same Backlog n some h = by (nat_lt n (2 ^ 64 - 1)) refl where
+    by : (b : Bool) → nat_lt n (2 ^ 64 - 1) ≡ b → AreEmbryos (map.insert m f (fewer Backlog c)) (cond b (n - 1) n)
+    by true e low = let most = h (ltb-true n (2 ^ 64 - 1) e) in omega (arith, most, same, some, changed (fewer Backlog c))
     by false e low = let high = ltb-false n (2 ^ 64 - 1) e in absurd (omega (arith, high, low))
-
-  -- A place less, which there is.
-  embryos-fewer : (p : Place) (n : ℕ) → IsCounted p (count_in_map m f) → AreEmbryos m n → AreEmbryos (map.insert m f (fewer p (count_in_map m f))) (without_embryo p n)
-  embryos-fewer Table n c h = λ low. let most = h low in omega (arith, most, changed (fewer Table (count_in_map m f)))
-  embryos-fewer (Queue u) n c h = λ low. let most = h low in omega (arith, most, changed (fewer (Queue u) (count_in_map m f)))
-  embryos-fewer Backlog n c h = embryos-left (fewer Backlog (count_in_map m f)) (omega (arith, c)) n h
 
 -- The number stays right with a place more.
 pub counted-more : (m : Map Count) (f : ℕ) (p : Place) (n k : ℕ) → k ≡ with_embryo p n → AreEmbryos m n → AreEmbryos (map.insert m f (more p (count_in_map m f))) k
@@ -76,11 +73,11 @@ counted-more m f p n k is h = subst (AreEmbryos (map.insert m f (more p (count_i
 
 -- And with a place less.
 pub counted-fewer : (m : Map Count) (f : ℕ) (p : Place) (n k : ℕ) → k ≡ without_embryo p n → IsCounted p (count_in_map m f) → AreEmbryos m n → AreEmbryos (map.insert m f (fewer p (count_in_map m f))) k
-counted-fewer m f p n k is c h = subst (AreEmbryos (map.insert m f (fewer p (count_in_map m f)))) (sym is) (embryos-fewer m f p n c h)
+counted-fewer m f p n k is c h = subst (AreEmbryos (map.insert m f (fewer p (count_in_map m f)))) (sym is) (embryos-fewer m f (count_in_map m f) refl p n c h)
 
--- And where a place in a backlog becomes one in a table.
-pub counted-moved : (m : Map Count) (f n k : ℕ) → k ≡ without_embryo Backlog n → IsCounted Backlog (count_in_map m f) → AreEmbryos m n → AreEmbryos (map.insert m f (fewer Backlog (more Table (count_in_map m f)))) k
-counted-moved m f n k is c h = let moved = fewer Backlog (more Table (count_in_map m f)) in subst (AreEmbryos (map.insert m f moved)) (sym is) (embryos-left m f moved (omega (arith, c)) n h)
+-- And where a place becomes one in a table.
+pub counted-moved : (m : Map Count) (f : ℕ) (p : Place) (n k : ℕ) → k ≡ without_embryo p n → IsCounted p (count_in_map m f) → AreEmbryos m n → AreEmbryos (map.insert m f (fewer p (more Table (count_in_map m f)))) k
+counted-moved m f p n k is c h = let all = more Table (count_in_map m f) in subst (AreEmbryos (map.insert m f (fewer p all))) (sym is) (embryos-fewer m f all refl p n (counted-tabled p (count_in_map m f) c) h)
 
 -- Where there are none, no file has a place in a backlog.
 pub embryos-none : (m : Map Count) (n : ℕ) → n ≤ 0 → AreEmbryos m n → (f : ℕ) → (count_in_map m f).waiting ≡ 0

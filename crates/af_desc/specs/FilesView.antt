@@ -73,10 +73,10 @@ with_file_ref p f v = record v { counts = map.insert v.counts f (more p (count_i
 abbrev pub without_file_ref : Place → ℕ → FilesView → FilesView
 without_file_ref p f v = record v { counts = map.insert v.counts f (fewer p (count_in_map v.counts f)) }
 
--- The file's place in a backlog is one in a table (accept(2)).
-abbrev pub with_moved_ref : ℕ → FilesView → FilesView
-with_moved_ref f v = record v {
-  counts = map.insert v.counts f (fewer Backlog (more Table (count_in_map v.counts f)));
+-- A place of this kind is one in a table instead (accept(2), recvmsg(2)).
+abbrev pub with_moved_ref : Place → ℕ → FilesView → FilesView
+with_moved_ref p f v = record v {
+  counts = map.insert v.counts f (fewer p (more Table (count_in_map v.counts f)));
 }
 
 -- The file f is changed, if it is a socket.

@@ -4,7 +4,7 @@ ghost use Rattle.std.specs.FinMap as map;
 ghost use Rattle.af_base.specs.Places.{held_in, queue_in};
 ghost use Rattle.af_ledger.specs.Counted.{places_in, IsCountable, IsCounted};
 ghost use Rattle.af_ledger.specs.Tally.{count_in_map, is_unreferenced};
-ghost use Rattle.af_ledger.specs.declared.place.Place.TheVariants.{Backlog, Table};
+ghost use Rattle.af_ledger.specs.declared.place.Place.TheVariants.{Table};
 ghost use Rattle.af_desc.specs.FilesView.{freed, with_embryo, with_file_ref, with_moved_ref};
 ghost use Rattle.af_desc.specs.FilesView.{without_embryo, without_file_ref};
 ghost use Rattle.af_mark.specs.MarksView.{is_unmarked};
@@ -131,15 +131,15 @@ impl Files {
         }
     }
 
-    /// Moves a place of a file, which waits in a backlog, to a table (accept(2)). Takes no memory.
+    /// Moves a place of a file, which has it, to a table (accept(2), recvmsg(2)). Takes no memory.
     #[inline(always)]
-    pub fn move_to_table(&mut self, file: &FileRef)
-        requires waiting { IsCounted Backlog (count_in_map self.old.counts file.now) }
+    pub fn move_to_table(&mut self, from: &Place, file: &FileRef)
+        requires counted { IsCounted from.now (count_in_map self.old.counts file.now) }
         requires countable { IsCountable Table (count_in_map self.old.counts file.now) }
-        ensures { self.new ≡ with_moved_ref file.now self.old }
+        ensures { self.new ≡ with_moved_ref from.now file.now self.old }
     {
-        self.rows.move_to_table(file);
-        self.embryos = without_embryo(self.embryos, &Place::Backlog);
+        self.rows.move_to_table(from, file);
+        self.embryos = without_embryo(self.embryos, from);
     }
 
     /// Drops the reference of a descriptor to a file, which has one. With its last reference, a

@@ -10,7 +10,7 @@ ghost use Rattle.af_base.specs.Refusals.{room_of};
 ghost use Rattle.af_base.specs.Whole.{IsMessageWithin};
 ghost use Rattle.af_ledger.specs.Counted.{fewer, more, places_in, IsCountable, IsCounted};
 ghost use Rattle.af_ledger.specs.Tally.{count_in_map};
-ghost use Rattle.af_ledger.specs.declared.place.Place.TheVariants.{Backlog, Table};
+ghost use Rattle.af_ledger.specs.declared.place.Place.TheVariants.{Table};
 ghost use Rattle.af_desc.specs.FilesView.{IsFirst, hung_up, name_in, popped, received_from};
 ghost use Rattle.af_desc.specs.FilesView.{received_of, socket_in};
 ghost use Rattle.af_desc.specs.FileTableView.{with_entry, with_socket, with_socket_and_room};
@@ -391,21 +391,21 @@ impl FileTable {
         row.count.is_none()
     }
 
-    /// Moves a place of a file, which waits in a backlog, to a table (accept(2)). Takes no memory.
+    /// Moves a place of a file, which has it, to a table (accept(2), recvmsg(2)). Takes no memory.
     #[inline(always)]
     #[tactic(auto, using(crate::proofs::TrackedTableView::chains, ordered_slab::proofs::Parts::parts, ordered_slab::proofs::Values::lent, af_ledger::proofs::Unreferenced::counted))]
-    pub fn move_to_table(&mut self, file: &FileRef)
-        requires waiting { IsCounted Backlog (count_in_map self.old.counts file.now) }
+    pub fn move_to_table(&mut self, from: &Place, file: &FileRef)
+        requires counted { IsCounted from.now (count_in_map self.old.counts file.now) }
         requires countable { IsCountable Table (count_in_map self.old.counts file.now) }
         ensures counts { self.new ≡ record self.old {
           counts = map.insert self.old.counts file.now
-              (fewer Backlog (more Table (count_in_map self.old.counts file.now)));
+              (fewer from.now (more Table (count_in_map self.old.counts file.now)));
         } }
         ensures len { map.len self.new.counts ≡ map.len self.old.counts }
     {
         let row = self.rows.get_mut(file).unwrap();
         row.count.add(&Place::Table);
-        row.count.sub(&Place::Backlog);
+        row.count.sub(from);
     }
 
     /// Drops the place of one descriptor of a file, which has one. If that was its last place,

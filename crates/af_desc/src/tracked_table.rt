@@ -12,7 +12,7 @@ ghost use Rattle.af_base.specs.Whole.{IsMessageWithin};
 ghost use Rattle.af_base.specs.World.{untold};
 ghost use Rattle.af_ledger.specs.Counted.{fewer, more, places_in, IsCountable, IsCounted};
 ghost use Rattle.af_ledger.specs.Tally.{count_in_map};
-ghost use Rattle.af_ledger.specs.declared.place.Place.TheVariants.{Backlog, Table};
+ghost use Rattle.af_ledger.specs.declared.place.Place.TheVariants.{Table};
 ghost use Rattle.af_mark.specs.Grey.{black_mark, grey_mark};
 ghost use Rattle.af_desc.specs.FilesView.{IsFirst, hung_up, name_in, popped, received_from};
 ghost use Rattle.af_desc.specs.FilesView.{received_of, socket_in};
@@ -387,18 +387,18 @@ impl TrackedTable {
         self.table.sub_place(place, file)
     }
 
-    /// Moves a place of a file, which waits in a backlog, to a table (accept(2)). Takes no memory.
+    /// Moves a place of a file, which has it, to a table (accept(2), recvmsg(2)). Takes no memory.
     #[inline(always)]
-    pub fn move_to_table(&mut self, file: &FileRef)
-        requires waiting { IsCounted Backlog (count_in_map self.old.counts file.now) }
+    pub fn move_to_table(&mut self, from: &Place, file: &FileRef)
+        requires counted { IsCounted from.now (count_in_map self.old.counts file.now) }
         requires countable { IsCountable Table (count_in_map self.old.counts file.now) }
         ensures counts { self.new ≡ record self.old {
           counts = map.insert self.old.counts file.now
-              (fewer Backlog (more Table (count_in_map self.old.counts file.now)));
+              (fewer from.now (more Table (count_in_map self.old.counts file.now)));
         } }
         ensures len { map.len self.new.counts ≡ map.len self.old.counts }
     {
-        self.table.move_to_table(file);
+        self.table.move_to_table(from, file);
     }
 
     /// Drops the place of one descriptor of a file, which has one. If that was its last place,

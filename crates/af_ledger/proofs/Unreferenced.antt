@@ -33,6 +33,12 @@ fewer-one Table c h = omega arith
 fewer-one (Queue u) c h = omega arith
 fewer-one Backlog c h = omega arith
 
+-- A place that is there still is with one more in a table.
+pub counted-tabled : (p : Place) (c : Count) → IsCounted p c → IsCounted p (more Table c)
+counted-tabled Table c h = omega arith
+counted-tabled (Queue u) c h = h
+counted-tabled Backlog c h = h
+
 module _ (m n : Map Count) (fs : List ℕ) (k : ℕ) (h : AreUnreferenced m fs) where
   -- An unknown file that is entered is unreferenced, and there is room for it.
   pub entered-pushed : n ≡ map.insert m k uncounted → map.contains_key m k ≡ false → AreUnreferenced n (fs ++ k ∷ []) × (length fs < map.len n)
@@ -68,6 +74,16 @@ module _ (m n : Map Count) (fs : List ℕ) (k : ℕ) (h : AreUnreferenced m fs) 
       lowered-pushed last = just-pushed (λ c. nat_eq (places_in c) 0) m n fs k h (fewer p (count_in_map m k)) is
           (eq-eqb (places_in (fewer p (count_in_map m k))) 0 (omega (arith, one-less, eqb-true (places_in (count_in_map m k)) 1 last))) had
 
+    -- Where a place becomes one in a table the list of unreferenced files stays.
+    pub moved-kept : n ≡ map.insert m k (fewer p (more Table (count_in_map m k))) → IsCounted p (count_in_map m k) → AreUnreferenced n fs
+    moved-kept is counted =
+        let c = count_in_map m k in
+        let moved = fewer p (more Table c) in
+        let as_many : places_in moved + 1 ≡ places_in c + 1 = fewer-one p (more Table c) (counted-tabled p c counted) ∙ omega arith in
+        just-same (λ d. nat_eq (places_in d) 0) m n fs k h moved is
+        (told_apart (places_in moved) 0 (λ e. omega (arith, e, as_many, fewer-one p c counted))
+        ∙ sym (not-unreferenced m k (told_apart (places_in c) 0 (λ e. omega (arith, e, fewer-one p c counted)))))
+
 -- The counts of a file of the map.
 pub counted-here : (m : Map Count) (f : ℕ) (c : Count) → map.get m f ≡ Some c → count_in_map m f ≡ c
 counted-here m f c at = ap (λ o. unwrap_or o uncounted) at
@@ -82,4 +98,4 @@ counted-known p m f = by p (map.get m f) where
   by Backlog None h = absurd (omega (arith, h))
 
 -- Numbers that are there.
-pub ruleset counted = (counted-here, counted-known)
+pub ruleset counted = (counted-here, counted-known, counted-tabled)

@@ -16,8 +16,9 @@ use Rattle.af_ledger.specs.declared.place.Place.TheVariants.{Backlog, Table}
 use Rattle.af_mark.specs.MarksView.{is_marked}
 use Rattle.af_collect.specs.Limits.{IsBelowLimit}
 use Rattle.af_collect.specs.HoldingsView.{HoldingsView}
-use Rattle.af_collect.proofs.Accepts.{embryo-taken, exact-accepted, moved-is}
+use Rattle.af_collect.proofs.Accepts.{embryo-taken, exact-accepted}
 use Rattle.af_collect.proofs.Bounds.{can-drop-backlog, can-hold-table}
+use Rattle.af_collect.proofs.CountChanges.{moved-is}
 use Rattle.af_collect.proofs.Exact.{world-is}
 use Rattle.af_collect.specs.Keeping.{NotBegunGarbage, below, is_running, pass_of}
 use Rattle.af_collect.proofs.TablePlaces.{covers_install, moves_install}
@@ -31,8 +32,8 @@ use Rattle.af_collect.proofs.PlaceChanges.{kept_socket, kept_tables}
 use Rattle.af_collect.proofs.StoreInvariant.{BothInvariants, both-same, stood}
 use Rattle.af_collect.proofs.store.Store.take_embryo.Goals as goal
 
-pub move_to_table-requires-clause-waiting : goal.move_to_table-requires-clause-waiting
-move_to_table-requires-clause-waiting c =
+pub move_to_table-requires-clause-counted : goal.move_to_table-requires-clause-counted
+move_to_table-requires-clause-counted c =
     let h = c.places.inside in
     let w = (the_view h).world in
     let s = c.args.listener.now in
@@ -64,7 +65,7 @@ both c =
     let free = subst (λ (v : World). table_at v pid fd ≡ None) back c.requires.free in
     let none = sym (there-table w pid fd (process_at w pid) there) ∙ free in
     let low = below-most w pid fd (process_at w pid) was.0.within there (subst (λ (v : World). IsBelowLimit v pid fd) back c.requires.limit (process_at w pid) there) in
-    let files = c.move_to_table.ensures ∙ ap (with_moved_ref f) c.dequeue.ensures.rest ∙ moved-is f _ in
+    let files = c.move_to_table.ensures ∙ ap (with_moved_ref Backlog f) c.dequeue.ensures.rest ∙ moved-is Backlog f _ in
     let spared = subst (λ (o : Collector). NotBegunGarbage (pass_of o.progress.stage o.begun.value.world o.progress.looked) s) (sym e.frame) (subst (λ (t : StoreView). NotBegunGarbage t.pass s) (sym c.self.view_is) c.requires.spared) in
     let shaded = subst (λ (o : Collector). MarksAll (λ g. slice_get (backlog_at o.places.world s) 0 ≡ Some g) o q) (sym e.frame) e.marked in
     let marked = subst (λ (t : HoldingsView). MarksAll (λ g. slice_get (backlog_at t.world s) 0 ≡ Some g) q (record q { places = t })) (sym c.places.view_is) shaded in

@@ -2,7 +2,6 @@ use Rattle.std.proofs.Common.{◌≡◌, true, sym, subst, ap, arith}
 use Rattle.std.specs.FinMap as map
 use Rattle.af_ledger.specs.Counted.{IsCounted}
 use Rattle.af_ledger.specs.Tally.{count_in_map}
-use Rattle.af_ledger.specs.declared.place.Place.TheVariants.{Backlog}
 use Rattle.af_ledger.proofs.Unreferenced.{counted-known}
 use Rattle.af_desc.specs.TrackedTableView.{TrackedTableView}
 use Rattle.af_desc.proofs.ToldLists.{told-counted}
@@ -12,6 +11,6 @@ pub invariant_of-self : goal.invariant_of-self
 invariant_of-self c =
     let k = c.args.file.now in
     let e = c.move_to_table.ensures in
-    let counted = subst (λ (v : TrackedTableView). IsCounted Backlog (count_in_map v.counts k)) (sym c.self.view_is) c.requires.waiting in
-    let there : map.contains_key c.self.inside.table.counts k ≡ true = counted-known Backlog c.self.inside.table.counts k counted in
+    let counted = subst (λ (v : TrackedTableView). IsCounted c.args.from.now (count_in_map v.counts k)) (sym c.self.view_is) c.requires.counted in
+    let there : map.contains_key c.self.inside.table.counts k ≡ true = counted-known c.args.from.now c.self.inside.table.counts k counted in
     (told-counted c.self.inside.table c.move_to_table.new.self _ _ _ _ _ _ c.self.invariant.0 k _ e.counts there e.len, c.self.invariant.1, (let low = c.self.invariant.2 in omega (arith, low, ap (λ l. l.room) e.counts)), (let few = c.self.invariant.3 in omega (arith, few, e.len)))
