@@ -37,7 +37,7 @@ struct Caller {
     is_done: bool,
 }
 
-/// Returns how long a run of this many events in each of so many threads takes, in nanoseconds.
+/// Returns how long a run takes, in nanoseconds: this many events in each of these threads.
 pub fn time_of_run<R: Threads + Wait + Clock + Sync>(
     rt: &R,
     alloc: Global,

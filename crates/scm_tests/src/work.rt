@@ -14,7 +14,7 @@ fn is_of_line(alloc: Global, event: &Event, line: &str) -> bool {
     }
 }
 
-/// The word stands for this event of worker 2 of 4.
+/// Checks that the word gives this event of worker 2 of 4.
 fn stands_for<T: Abort + AllocGlobal>(rt: &T, word: u64, line: &str) -> Result<(), AllocError> {
     let event = event_of_word(rt.alloc(), 2, 4, word)?;
     assert!(rt;
@@ -61,7 +61,7 @@ static DRAWN: [(usize, &str); 10] = [
     (12, "3 exit"),
 ];
 
-/// The script has this event at this place.
+/// Checks that the script has this event at this place.
 fn has<T: Abort + AllocGlobal>(rt: &T, script: &[Event], place: usize, line: &str) {
     let is_there = match script.get(place) {
         Some(event) => is_of_line(rt.alloc(), event, line),
@@ -70,7 +70,7 @@ fn has<T: Abort + AllocGlobal>(rt: &T, script: &[Event], place: usize, line: &st
     assert!(rt; is_there, "at {place}");
 }
 
-/// The script has 13 events, with those that were drawn.
+/// Checks that the script has 13 events, those that were drawn among them.
 fn has_drawn<T: Abort + AllocGlobal>(rt: &T, script: &[Event]) {
     assert!(rt; script.len() == 13);
     for (place, line) in &DRAWN {

@@ -30,7 +30,7 @@ EPIPE
 check ok live 1 garbage 0
 ";
 
-/// So many lines of a text.
+/// Returns the first lines of a text, this many.
 fn first_lines(text: &[u8], lines: usize) -> &[u8] {
     let mut left = lines;
     for i in 0..text.len() {
