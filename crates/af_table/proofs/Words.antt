@@ -130,7 +130,7 @@ word_end : (word m q : ℕ) → word < 2 ^ m → m ≤ q → is_set word q ≡ f
 word_end word m q fits le = same_bit (bit_at word q) 0 (bit_at_above word m q fits le)
 
 -- Nothing is taken behind the highest bit of the last word that is not 0.
-pub none_behind : (ws : List ℕ) (i q : ℕ) → slice_index ws i < 2 ^ 64 → ((r : ℕ) → 64 * (i + 1) ≤ r → is_taken ws r ≡ false) → 64 * (i + 1) - leading_zeros w64 (slice_index ws i) ≤ q → is_taken ws q ≡ false
+pub none_behind : (ws : List ℕ) (i q : ℕ) → slice_index ws i < 2 ^ 64 → (64 * (i + 1) ≤ q → is_taken ws q ≡ false) → 64 * (i + 1) - leading_zeros w64 (slice_index ws i) ≤ q → is_taken ws q ≡ false
 none_behind ws i q fits above le =
     let l = leading_length 64 (slice_index ws i) fits in
     by l.0 l.1 l.2 (nat_lt q (64 * (i + 1))) refl where
@@ -139,20 +139,16 @@ none_behind ws i q fits above le =
           let h : q < 64 * (i + 1) = ltb-true q (64 * (i + 1)) e in
           let word : q / 64 ≡ i = omega arith in
           ap (λ j. is_set (slice_index ws j) (q % 64)) word ∙ word_end (slice_index ws i) m (q % 64) low (omega arith)
-      by m total low false e = above q (omega (arith, ltb-false q (64 * (i + 1)) e))
+      by m total low false e = above (omega (arith, ltb-false q (64 * (i + 1)) e))
 
 -- Nor in a word that is 0.
-pub none_in_zero : (ws : List ℕ) (i q : ℕ) → slice_index ws i ≡ 0 → ((r : ℕ) → 64 * (i + 1) ≤ r → is_taken ws r ≡ false) → 64 * i ≤ q → is_taken ws q ≡ false
+pub none_in_zero : (ws : List ℕ) (i q : ℕ) → slice_index ws i ≡ 0 → (64 * (i + 1) ≤ q → is_taken ws q ≡ false) → 64 * i ≤ q → is_taken ws q ≡ false
 none_in_zero ws i q empty above le = by (nat_lt q (64 * (i + 1))) refl where
   by : (b : Bool) → nat_lt q (64 * (i + 1)) ≡ b → is_taken ws q ≡ false
   by true e =
       let h : q < 64 * (i + 1) = ltb-true q (64 * (i + 1)) e in
       let word : q / 64 ≡ i = omega arith in
       ap (λ j. is_set (slice_index ws j) (q % 64)) word ∙ same_bit _ 0 (ap (λ w. bit_at w (q % 64)) empty ∙ bit_at-zero (q % 64))
-  by false e = above q (omega (arith, ltb-false q (64 * (i + 1)) e))
-
--- Nor behind the words.
-pub none_past : (ws : List ℕ) (q : ℕ) → length ws ≤ q / 64 → is_taken ws q ≡ false
-none_past ws q h = same_bit _ 0 (ap (λ w. bit_at w (q % 64)) (get_or_past ws (q / 64) 0 h) ∙ bit_at-zero (q % 64))
+  by false e = above (omega (arith, ltb-false q (64 * (i + 1)) e))
 
 pub ruleset places = (place_found, place_none, places_of_not, no_place_of_not)

@@ -77,11 +77,13 @@ impl Bits {
         None
     }
 
-    /// Returns a number behind all in the set: behind the last one, and 0 for an empty set.
-    pub fn end(&self) -> u32
-        ensures { (q : ℕ) → result ≤ q → is_taken self.now.words q ≡ false }
+    /// Returns a number behind all below this one that are in the set: behind the last one, and 0 if
+    /// there is none. Looks at no word beyond.
+    pub fn end_below(&self, below: u32) -> u32
+        requires { below ≤ MAX_NOFILE }
+        ensures { (q : ℕ) → result ≤ q → q < below → is_taken self.now.words q ≡ false }
     {
-        for i in (0..WORDS as u32).rev() {
+        for i in (0..below.div_ceil(u64::BITS)).rev() {
             let word = self.words[i as usize];
             if word != 0 {
                 return u64::BITS * (i + 1) - word.leading_zeros();

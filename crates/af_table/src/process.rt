@@ -82,7 +82,8 @@ impl Process {
     pub(crate) fn copy(&self, row: Vec<FileRef>) -> Result<Process, AllocError>
         ensures { IfOk result (λ p. p.process ≡ self.now.process) }
     {
-        let used = self.slots.len().min(self.taken.end() as usize);
+        let end = self.taken.end_below(self.slots.len() as u32);
+        let used = self.slots.len().min(end as usize);
         Ok(Process {
             user: self.user,
             limit: self.limit,
