@@ -90,7 +90,10 @@ impl Taken {
         ensures rest { message.new ≡ record message.old { attached = [] } }
     {
         self.user = message.user();
-        message.swap_attached(&mut self.attached);
+        // Few pieces of a stream bring files.
+        if message.has_files() {
+            message.swap_attached(&mut self.attached);
+        }
     }
 
     /// Returns the received files.
