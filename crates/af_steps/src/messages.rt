@@ -213,6 +213,7 @@ impl Engine {
             Refuses self.old pid (Step.Recv on max_bytes max_fds) e self.new) }
     {
         let mut fds = Fds::new(self.alloc);
+        let mut taken = Taken::nothing(self.alloc);
         let Some(file) = self.prepare_receive(pid, on, max_bytes, max_fds, &mut fds)? else {
             return Ok(Received::End);
         };
@@ -220,7 +221,6 @@ impl Engine {
         // A file in a table is no garbage of a running pass.
         self.store.lemma_is_spared();
         self.store.room_for(pid, fds.len())?;
-        let mut taken = Taken::nothing(self.alloc);
         self.store
             .take_msg(&file, max, pid, fds.as_slice(), &mut taken)?;
         self.store.release();
@@ -312,12 +312,18 @@ pub(crate) fn check_receive(socket: &Socket, max_bytes: u32) -> Result<(), Errno
 }
 
 /// Returns the files of these descriptors of the process, without those that are free.
+#[inline(always)]
 fn files_at(alloc: Global, process: &Process, fds: &[Fd]) -> Result<Attached, AllocError>
     ensures value { IfOk result (λ files.
         files.items ≡ filter_map (map.get process.now.process.table) fds.now) }
     ensures bound { IfOk result (λ files. length files.items ≤ length fds.now) }
 {
-    let mut files = SmallVec::with_capacity(alloc, fds.len())?;
+    // Most messages bring one file at most, which needs no memory.
+    let mut files = if fds.len() <= 1 {
+        SmallVec::new(alloc)
+    } else {
+        SmallVec::from_vec(Vec::with_capacity(alloc, fds.len())?)
+    };
     for fd in fds {
         let Some(file) = process.lookup(*fd) else {
             continue;
