@@ -9,8 +9,11 @@ program is not built.
 import argparse
 import contextlib
 import os
+import resource
+import socket
 import subprocess
 import sys
+import tempfile
 from pathlib import Path
 from typing import Iterator, List, NamedTuple, Tuple
 
@@ -87,6 +90,9 @@ TWICE = [*(f"{race()} --{it} 1" for it in NUMBERS), f"{race(checkpoint=1)} --che
 RACES = [
     (race(workers=4, steps=2_000, seed=7, budget=8), 8_000),
     (race(), 5),
+    *((race(workers=4, steps=400, seed=it, budget=by), 1_600) for it in range(3) for by in (1, 8, 65_536)),
+    (race(workers=2, steps=9, seed=8, budget=8), 18),
+    (race(workers=2, steps=9, seed=8, budget=8, checkpoint=6), 18),
     (race(checkpoint=0), 5),
     (race(checkpoint=1), 5),
     (race(workers=3, steps=50, seed=8, budget=8, checkpoint=1), 150),
@@ -187,6 +193,11 @@ BEGINNINGS = {
 }
 
 
+def replies_to(script: bytes) -> bytes:
+    """The replies to the whole lines among these first bytes of it."""
+    return b"".join(reply for _, reply in CYCLE[: script.count(b"\n")])
+
+
 def cut_scripts(program: Program) -> Iterator[Check]:
     """That script is cut after each of its bytes."""
     before, replies = b"", b""
@@ -203,16 +214,110 @@ def cut_scripts(program: Program) -> Iterator[Check]:
 
 # ---- Streams that fail ----
 
+# That script as a whole, and its replies.
+SCRIPT = b"".join(line + b"\n" for line, _ in CYCLE)
+REPLIES = b"".join(reply for _, reply in CYCLE)
+# How many bytes come in each read, after how many reads one fails, and what is written then.
+READS = [
+    *((1, reads, replies_to(SCRIPT[:reads])) for reads in range(len(SCRIPT) + 1)),
+    (31, 0, b""),
+    (31, 1, b"pid 1\nfds 0 1\n"),
+    (31, 2, b"pid 1\nfds 0 1\nsent 2\nok\nuser 1000 inflight 1\n"),
+    (45, 1, b"pid 1\nfds 0 1\nsent 2\n"),
+    (97, 1, REPLIES),
+]
+# Some lines before one that cannot be read, and their replies.
+BAD_SCRIPT = b"spawn 1000 16\n1 open\n1 open\nwalk\n1 open\n"
+# 100 messages of 10,000 bytes that are sent and received, and what is written of them: 1 MB.
+MUCH = b"spawn 1000 16\n1 pair seqpacket\n" + 100 * b"1 send 1 *10000\n1 recv 0 10000 0\n"
+MUCH_TEXT = b"pid 1\nfds 0 1\n" + 100 * (b"sent 10000\ngot " + 10_000 * b"x" + b"\n")
+CANNOT_READ = b"scmgc: reading failed\n"
+CANNOT_WRITE = b"scmgc: writing failed\n"
+
 
 def streams(program: Program) -> Iterator[Check]:
     folder = os.open(ROOT, os.O_RDONLY)
-    found = program.run("run", stdin=folder)
-    yield "a read that fails", found, found == Answer(1, b"", b"scmgc: reading failed\n")
+    yield reads_from(program, "a folder", folder, Answer(1, b"", CANNOT_READ))
     os.close(folder)
     with open("/dev/full", "wb") as full:
         found = program.run("run", b"spawn 1000 16\n", stdout=full)
-    yield "a write that fails", found, found == Answer(1, b"", b"scmgc: writing failed\n")
+    yield "a write that fails", found, found == Answer(1, b"", CANNOT_WRITE)
+    for at_once, reads, written in READS:
+        yield fails_to_read(program, at_once, reads, Answer(1, written, CANNOT_READ))
+    for taken in range(len(REPLIES)):
+        yield writes_at_most(program, taken, SCRIPT, Answer(1, REPLIES[:taken], CANNOT_WRITE))
+    yield writes_at_most(program, len(REPLIES), SCRIPT, Answer(0, REPLIES))
+    # What was gathered is written before the bad line is reported. If that fails, the failure is reported.
+    yield writes_at_most(program, 0, BAD_SCRIPT, Answer(1, b"", CANNOT_WRITE))
+    yield writes_at_most(program, 100, BAD_SCRIPT, unreadable(4, b"pid 1\nfd 0\nfd 1\n"))
+    yield writes_at_most(program, 0, MUCH, Answer(1, b"", CANNOT_WRITE))
+    yield comes_in_thousands_of_reads(program)
+    yield writes_much_at_once(program)
     yield refuses_a_long_line_at_once(program)
+
+
+def reads_from(program: Program, name: str, stdin, wanted: Answer) -> Check:
+    found = program.run("run", stdin=stdin)
+    return name, found, found == wanted
+
+
+def fails_to_read(program: Program, at_once: int, reads: int, wanted: Answer) -> Check:
+    """So many bytes of the script come in each of so many reads. The next read fails, and one after that would end.
+
+    A read takes nothing from behind a message with a descriptor. The other end is closed before it was read, so a read
+    behind all messages gets ECONNRESET once.
+    """
+    ours, theirs = socket.socketpair()
+    with theirs:
+        with ours, open(os.devnull, "rb") as file:
+            theirs.send(b"unread")
+            for begin in range(0, at_once * reads, at_once):
+                socket.send_fds(ours, [SCRIPT[begin : begin + at_once]], [file.fileno()])
+        return reads_from(program, f"{reads} reads of {at_once} bytes, and one that fails", theirs, wanted)
+
+
+def writes_at_most(program: Program, taken: int, script: bytes, wanted: Answer) -> Check:
+    """The output takes so many bytes, and then fails."""
+
+    def limit():
+        resource.setrlimit(resource.RLIMIT_FSIZE, (taken, taken))
+
+    with tempfile.TemporaryFile() as output:
+        # (the signal of that limit stays ignored, as Python has it)
+        found = program.run("run", script, stdout=output, preexec_fn=limit, restore_signals=False)
+        output.seek(0)
+        found = found._replace(output=output.read())
+    return f"{taken} bytes written of {script[:30]!r}", found, found == wanted
+
+
+def comes_in_thousands_of_reads(program: Program) -> Check:
+    """A script comes in thousands of reads, one byte each: a pipe in this mode keeps its writes apart."""
+    given, giving = os.pipe2(os.O_DIRECT)
+    with tempfile.TemporaryFile() as output:
+        with subprocess.Popen([program.path, "run"], stdin=given, stdout=output, stderr=subprocess.PIPE) as run:
+            os.close(given)
+            # (a program that ends too soon has closed the other end)
+            with contextlib.suppress(BrokenPipeError):
+                for byte in MUCH:
+                    os.write(giving, bytes([byte]))
+            os.close(giving)
+            error = run.stderr.read()
+        output.seek(0)
+        found = Answer(run.returncode, output.read(), error)
+    return "reads of one byte", found, found == Answer(0, MUCH_TEXT)
+
+
+def writes_much_at_once(program: Program) -> Check:
+    """The replies to lines that are read at once are written in 17 writes at most, each a message of this socket."""
+    ours, theirs = socket.socketpair(socket.AF_UNIX, socket.SOCK_SEQPACKET)
+    with ours, tempfile.TemporaryFile() as script:
+        script.write(MUCH)
+        script.seek(0)
+        with subprocess.Popen([program.path, "run"], stdin=script, stdout=theirs) as run:
+            theirs.close()
+            parts = list(iter(lambda: ours.recv(2 * len(MUCH_TEXT)), b""))
+    found = Answer(run.returncode, b"".join(parts))
+    return f"{len(parts)} writes", found, found == Answer(0, MUCH_TEXT) and len(parts) <= 17
 
 
 def refuses_a_long_line_at_once(program: Program) -> Check:

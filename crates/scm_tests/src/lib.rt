@@ -3,10 +3,6 @@
 #![tactic(auto)]
 
 #[cfg(test)]
-mod race;
-#[cfg(test)]
-mod run;
-#[cfg(test)]
 mod watched;
 #[cfg(test)]
 mod work;

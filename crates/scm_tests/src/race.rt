@@ -1,3 +1,0 @@
-//! Whole races, and what their logs have.
-mod logs;
-mod races;
