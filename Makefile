@@ -65,7 +65,8 @@ check:
 	tests/calls_agree.py
 	tools/bindings --check
 	rt all check
-	cd crates/scm_cases && rt run < stdin | cmp - stdout
+	$(MAKE) --no-print-directory build
+	tests/cases.py
 
 bindings:
 	$(need)

@@ -1,5 +1,5 @@
 #!/usr/bin/env python3
-"""program.py: whether the built program answers as it has to, where no case of crates/scm_cases can show it.
+"""program.py: whether the built program answers as it has to, where no case of tests/cases can show it.
 
 A case is a script and its replies. Here are command lines, the status and the complaint of each run, lines at the
 limits, scripts that are cut anywhere, streams that fail, races, and scripts that fill all that there is. It prints a

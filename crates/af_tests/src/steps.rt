@@ -1,4 +1,4 @@
-//! Tests beyond the clauses and scripts. The worked scripts of `scm_cases`, with each refusal, show
+//! Tests beyond the clauses and scripts. The worked scripts of `tests/cases`, with each refusal, show
 //! that the definitions say what was meant.
 mod acts;
 mod cycle;

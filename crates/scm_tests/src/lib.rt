@@ -1,5 +1,5 @@
 //! The tests of the crates that scripts and races are made of, a module for each: what no clause
-//! says, and neither a case of `scm_cases` nor `tests/program.py` shows.
+//! says, and neither a case of `tests/cases` nor `tests/program.py` shows.
 #![tactic(auto)]
 
 #[cfg(test)]
