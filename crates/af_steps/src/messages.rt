@@ -148,10 +148,10 @@ impl Engine {
         ensures err { IfErr result (λ e. (e ≡ Errno.ENOMEM) × (self.new ≡ self.old)) }
     {
         let count = bytes.len() as u32;
-        let message = Msg::new(bytes, envelope.attached, envelope.user);
         // A file in a table is no garbage of a running pass.
         self.store.lemma_is_spared();
         self.store.room_for_message()?;
+        let message = Msg::new(bytes, envelope.attached, envelope.user);
         self.store.put_msg(&envelope.peer, message);
         self.store.release();
         Ok(count)
