@@ -174,4 +174,14 @@ taken_out ws vs fs n f bits = same_table vs _ _ (λ q. by q (nat_eq q n) refl) w
       let kept : is_taken vs q ≡ is_taken ws q = bits q ∙ ap (λ b. cond b false (is_taken ws q)) e in
       ap (λ b. cond b (slice_get (slice_set fs n f) q) None) kept ∙ ap (λ o. cond (is_taken ws q) o None) (slice_get-set_other fs n q f (eqb-false q n e)) ∙ sym (remove-other (table_of ws fs) n q e ∙ table_at ws fs q)
 
-pub ruleset table_changes = (table_clear, table_set, taken_low, installed, taken_out, none_there, resized, cut, no_slots, blank_at, blank_none, blank_cut, blank_installed, blank_taken_out)
+-- What a slot and its bit say of a descriptor.
+pub ruleset table_reads = (table_clear, table_set, taken_low, blank_at)
+
+-- A descriptor is taken into use.
+pub ruleset table_installs = (installed, blank_installed)
+
+-- And freed.
+pub ruleset table_frees = (none_there, taken_out, blank_taken_out)
+
+-- Slots come and go where no bit is set.
+pub ruleset table_cuts = (resized, cut, no_slots, blank_none, blank_cut)

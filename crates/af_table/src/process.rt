@@ -54,7 +54,7 @@ impl Model for Process {
 
 impl Process {
     /// Makes a process with an empty table, and no room in it.
-    #[tactic(auto, using(crate::proofs::Tables::table_changes))]
+    #[tactic(auto, using(crate::proofs::Tables::table_cuts))]
     pub(crate) fn new(alloc: Global, user: Uid, limit: u32, privileged: bool) -> Process
         requires { limit ≤ MAX_NOFILE }
         ensures { result ≡ record {
@@ -78,7 +78,7 @@ impl Process {
 
     /// Copies the process, with all its open descriptors. The memory of this row, which may have
     /// files of another process, is used for its slots; they end behind its last open one.
-    #[tactic(auto, using(crate::proofs::Tables::table_changes))]
+    #[tactic(auto, using(crate::proofs::Tables::table_cuts))]
     pub(crate) fn copy(&self, row: Vec<FileRef>) -> Result<Process, AllocError>
         ensures { IfOk result (λ p. p.process ≡ self.now.process) }
     {
@@ -120,7 +120,7 @@ impl Process {
 
     /// Returns the file of the descriptor, if it is open.
     #[inline(always)]
-    #[tactic(auto, using(crate::proofs::Tables::table_changes))]
+    #[tactic(auto, using(crate::proofs::Tables::table_reads))]
     pub fn lookup(&self, fd: Fd) -> Option<FileRef>
         ensures { result ≡ map.get self.now.process.table fd }
     {
@@ -133,7 +133,6 @@ impl Process {
 
     /// Makes room for each descriptor below the limit, and adds none above it.
     #[inline(always)]
-    #[tactic(auto, using(crate::proofs::Tables::table_changes))]
     pub fn make_room(&mut self) -> Result<(), AllocError>
         ensures process { self.new.process ≡ self.old.process }
         ensures ok { OnOk result (self.old.process.limit ≤ self.new.row) }
@@ -151,7 +150,7 @@ impl Process {
     /// Adds slots up to the limit, which is more than there were. Few events come here.
     #[cold]
     #[inline(never)]
-    #[tactic(auto, using(crate::proofs::Tables::table_changes))]
+    #[tactic(auto, using(crate::proofs::Tables::table_cuts))]
     fn lengthen(&mut self) -> Result<(), AllocError>
         requires { self.old.row ≤ self.old.process.limit }
         ensures process { self.new.process ≡ self.old.process }
@@ -172,7 +171,7 @@ impl Process {
 
     /// Sets the descriptor, for which there is room, to the file.
     #[inline(always)]
-    #[tactic(auto, using(crate::proofs::Tables::table_changes))]
+    #[tactic(auto, using(crate::proofs::Tables::table_installs))]
     pub fn install(&mut self, fd: Fd, file: FileRef)
         requires { fd < self.old.row }
         ensures { self.new ≡ record self.old { process = installed fd file self.old.process } }
@@ -184,7 +183,7 @@ impl Process {
     /// Installs the file at a descriptor for which there is room. Returns the file that it referred
     /// to before, if any.
     #[inline(always)]
-    #[tactic(auto, using(crate::proofs::Tables::table_changes))]
+    #[tactic(auto, using(crate::proofs::Tables::table_reads, crate::proofs::Tables::table_installs))]
     pub fn replace(&mut self, fd: Fd, file: FileRef) -> Option<FileRef>
         requires { fd < self.old.row }
         ensures value { result ≡ map.get self.old.process.table fd }
@@ -201,7 +200,7 @@ impl Process {
 
     /// Frees the descriptor, and returns its file.
     #[inline(always)]
-    #[tactic(auto, using(crate::proofs::Tables::table_changes))]
+    #[tactic(auto, using(crate::proofs::Tables::table_reads, crate::proofs::Tables::table_frees))]
     pub(crate) fn take_out(&mut self, fd: Fd) -> Option<FileRef>
         ensures value { result ≡ map.get self.old.process.table fd }
         ensures taken { self.new ≡ record self.old { process = taken_out fd self.old.process } }
@@ -268,7 +267,7 @@ impl Process {
     /// Returns the least open descriptor from this one on, with its file, if there is one. A walk
     /// continues behind each answer.
     #[inline]
-    #[tactic(auto, using(crate::proofs::Tables::table_changes))]
+    #[tactic(auto, using(crate::proofs::Tables::table_reads))]
     pub fn next_open(&self, from: Fd) -> Option<(Fd, FileRef)>
         ensures open { IfSome result (λ e. map.get self.now.process.table e.0 ≡ Some e.1) }
         ensures low { IfSome result (λ e. e.0 < MAX_NOFILE) }
@@ -286,7 +285,7 @@ impl Process {
     /// Returns the files of this descriptor and of those right behind it, up to the first that is
     /// not open.
     #[inline(always)]
-    #[tactic(auto, using(crate::proofs::Tables::table_changes))]
+    #[tactic(auto, using(crate::proofs::Tables::table_reads))]
     pub fn run_from(&self, fd: Fd) -> &[FileRef]
         ensures open { (i : ℕ) → i < length result.now
             → map.get self.now.process.table (fd + i) ≡ slice_get result.now i }
