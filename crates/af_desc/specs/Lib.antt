@@ -2,6 +2,6 @@
 pub mod FilesView
 pub mod FileTableView
 pub mod Holding
-pub mod Link
+pub mod Form
 pub mod TrackedTableView
 pub mod Told

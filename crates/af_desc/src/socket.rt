@@ -1,10 +1,12 @@
 //! A socket: what it is but for its queue, and the whole, lent for reading.
 ghost use Rattle.std.specs.Prelude.{◌≡◌, ℕ, ◌∷◌, [], ◌<◌, OnOk, OnErr, IfSome, IfNone, None, false};
-ghost use Rattle.std.specs.Prelude.{true, is_none, length, drop, option_copied};
+ghost use Rattle.std.specs.Prelude.{true, is_none, length, drop, option_copied, option_map};
+ghost use Rattle.std.specs.Option.{option_map_or};
 ghost use Rattle.af_base.specs.Changes.{connected, dequeued, listening, queued, with_name};
 ghost use Rattle.af_base.specs.Refusals.{room_of};
 ghost use Rattle.af_base.specs.Steps.{connected_socket, idle_socket};
 ghost use Rattle.af_desc.specs.FilesView.{hung_up};
+ghost use Rattle.af_desc.specs.Form.{state_of};
 
 use af_base::events::{SockType, State};
 use af_base::ids::FileRef;
@@ -17,10 +19,29 @@ use std::marker::Model;
 /// A socket but for its queue. A contract sees it as a socket with an empty queue.
 #[derive(Drop)]
 pub struct Endpoint {
-    kind: SockType,
+    form: Form,
+}
+
+/// The forms of a socket, each with its type. Most sockets have no name, and take no memory of their
+/// own.
+#[derive(Drop)]
+enum Form {
+    /// Has no name, and was never connected.
+    Idle(SockType),
+    /// Has no name, and is connected to this live peer.
+    Connected(SockType, FileRef),
+    /// Has no name, and was connected; the peer is gone.
+    HungUp(SockType),
+    /// Has a name.
+    Named(SockType, Box<NamedSocket>),
+}
+
+/// A socket with a name, and the embryos that wait there: none, until it listens.
+#[derive(Drop)]
+struct NamedSocket {
     link: Link,
-    /// The parts that only a socket with a name has; most have none.
-    named_parts: Option<Box<NamedParts>>,
+    name: Bytes,
+    backlog: Backlog,
 }
 
 /// A connection state, which finds the peer as a file. A contract sees it as a `State`.
@@ -36,32 +57,17 @@ enum Link {
     HungUp,
 }
 
-/// A name, and the embryos that wait at the socket of that name: none, until it listens.
-#[derive(Drop)]
-struct NamedParts {
-    name: Bytes,
-    backlog: Backlog,
-}
-
 impl Model for Endpoint {
-    ghost use Rattle.std.specs.Prelude.{◌≤◌, [], option_map};
-    ghost use Rattle.std.specs.Option.{option_map_or};
+    ghost use Rattle.std.specs.Prelude.{◌≤◌};
     ghost use Rattle.af_base.specs.Refusals.{room_of};
     ghost use Rattle.af_base.specs.World as world;
-    ghost use Rattle.af_desc.specs.Link.{state_of};
+    ghost use Rattle.af_desc.specs.Form.{most_of, shown};
 
     ghost Value = { world.Socket };
 
-    ghost view = { λ a. record {
-      kind = a.kind;
-      state = state_of a.link;
-      name = option_map (λ b. b.value.name) a.named_parts;
-      queue = [];
-      backlog = option_map_or (λ b. b.value.backlog.waiting) a.named_parts [];
-    } };
+    ghost view = { λ a. shown a.form };
 
-    ghost invariant = { λ a. room_of (state_of a.link)
-        ≤ option_map_or (λ b. b.value.backlog.most) a.named_parts 0 };
+    ghost invariant = { λ a. room_of (shown a.form).state ≤ most_of a.form };
 }
 
 impl Endpoint {
@@ -70,9 +76,7 @@ impl Endpoint {
         ensures { result ≡ idle_socket kind }
     {
         Endpoint {
-            kind,
-            link: Link::Idle,
-            named_parts: None,
+            form: Form::Idle(kind),
         }
     }
 
@@ -81,9 +85,7 @@ impl Endpoint {
         ensures { result ≡ connected_socket kind peer.now }
     {
         Endpoint {
-            kind,
-            link: Link::Connected(peer.duplicate()),
-            named_parts: None,
+            form: Form::Connected(kind, peer.duplicate()),
         }
     }
 
@@ -91,8 +93,10 @@ impl Endpoint {
     pub fn lemma_is_silent(&self)
         ensures { self.now.queue ≡ [] }
     {
-        // The view says it: reading a field gives it to the prover.
-        let _kind = &self.kind;
+        // Each form says it.
+        match &self.form {
+            Form::Idle(_) | Form::Connected(_, _) | Form::HungUp(_) | Form::Named(_, _) => {}
+        }
     }
 
     /// Returns whether it has no name. If so, no embryo waits in its backlog.
@@ -101,14 +105,20 @@ impl Endpoint {
         ensures name { result ≡ is_none self.now.name }
         ensures backlog { result ≡ true → self.now.backlog ≡ [] }
     {
-        self.named_parts.is_none()
+        !matches!(&self.form, Form::Named(_, _))
     }
 
     /// Returns its type.
+    #[inline(always)]
     pub fn kind(&self) -> SockType
         ensures { result ≡ self.now.kind }
     {
-        self.kind
+        match &self.form {
+            Form::Idle(kind)
+            | Form::Connected(kind, _)
+            | Form::HungUp(kind)
+            | Form::Named(kind, _) => *kind,
+        }
     }
 
     /// Returns its connection state.
@@ -116,33 +126,46 @@ impl Endpoint {
     fn state(&self) -> State
         ensures { result ≡ self.now.state }
     {
-        match &self.link {
-            Link::Idle => State::Idle,
-            Link::Listening(most) => State::Listening(*most),
-            Link::Connected(peer) => State::Connected(peer.ino()),
-            Link::HungUp => State::HungUp,
+        match &self.form {
+            Form::Idle(_) => State::Idle,
+            Form::Connected(_, peer) => State::Connected(peer.ino()),
+            Form::HungUp(_) => State::HungUp,
+            Form::Named(_, socket) => socket.link.state(),
+        }
+    }
+
+    /// Returns its connection state once more.
+    fn link(&self) -> Link
+        ensures { state_of result ≡ self.now.state }
+    {
+        match &self.form {
+            Form::Idle(_) => Link::Idle,
+            Form::Connected(_, peer) => Link::Connected(peer.duplicate()),
+            Form::HungUp(_) => Link::HungUp,
+            Form::Named(_, socket) => socket.link.duplicate(),
         }
     }
 
     /// Returns its peer, if it is connected and the peer is live.
+    #[inline(always)]
     pub fn peer(&self) -> Option<FileRef>
         ensures some { IfSome result (λ peer. self.now.state ≡ State.Connected peer) }
         ensures none { IfNone result ((peer : ℕ) → ¬ (self.now.state ≡ State.Connected peer)) }
     {
-        match &self.link {
-            Link::Connected(peer) => Some(peer.duplicate()),
-            Link::Idle | Link::Listening(_) | Link::HungUp => None,
+        match &self.form {
+            Form::Connected(_, peer) => Some(peer.duplicate()),
+            Form::Idle(_) | Form::HungUp(_) => None,
+            Form::Named(_, socket) => socket.link.peer(),
         }
     }
 
     /// Returns its abstract name, if it has one (unix(7)).
+    #[inline(always)]
     pub fn name(&self) -> Option<&Bytes>
         ensures { option_copied result ≡ self.now.name }
     {
-        match &self.named_parts {
-            Some(named_parts) => Some(&named_parts.name),
-            None => None,
-        }
+        let socket = self.named()?;
+        Some(&socket.name)
     }
 
     /// Sets its name. On an error nothing has changed.
@@ -151,11 +174,12 @@ impl Endpoint {
         ensures ok { OnOk result (self.new ≡ with_name name self.old) }
         ensures err { OnErr result (self.new ≡ self.old) }
     {
-        let named_parts = NamedParts {
+        let socket = NamedSocket {
+            link: self.link(),
             name,
             backlog: Backlog::none(alloc),
         };
-        self.named_parts = Some(Box::new(alloc, named_parts)?);
+        self.form = Form::Named(self.kind(), Box::new(alloc, socket)?);
         Ok(())
     }
 
@@ -168,11 +192,10 @@ impl Endpoint {
         ensures err { OnErr result (self.new ≡ self.old) }
     {
         let backlog = Backlog::new(alloc, most)?;
-        let Some(named_parts) = &mut self.named_parts else {
-            return Ok(());
-        };
-        named_parts.backlog = backlog;
-        self.link = Link::Listening(most);
+        if let Form::Named(_, socket) = &mut self.form {
+            socket.backlog = backlog;
+            socket.link = Link::Listening(most);
+        }
         Ok(())
     }
 
@@ -180,7 +203,10 @@ impl Endpoint {
     pub fn connect(&mut self, peer: &FileRef)
         ensures { self.new ≡ connected peer.now self.old }
     {
-        self.link = Link::Connected(peer.duplicate());
+        match &mut self.form {
+            Form::Named(_, socket) => socket.link = Link::Connected(peer.duplicate()),
+            _ => self.form = Form::Connected(self.kind(), peer.duplicate()),
+        }
     }
 
     /// Appends an embryo. Takes no memory.
@@ -188,10 +214,9 @@ impl Endpoint {
         requires { length self.old.backlog < room_of self.old.state }
         ensures { self.new ≡ queued embryo self.old }
     {
-        let Some(named_parts) = self.named_parts.as_mut() else {
-            return;
-        };
-        named_parts.backlog.enqueue(embryo);
+        if let Form::Named(_, socket) = &mut self.form {
+            socket.backlog.enqueue(embryo);
+        }
     }
 
     /// Removes the first embryo, if there is one. Takes no memory.
@@ -201,15 +226,71 @@ impl Endpoint {
         ensures none { IfNone result (self.old.backlog ≡ []) }
         ensures rest { self.new ≡ dequeued self.old }
     {
-        let named_parts = self.named_parts.as_mut()?;
-        named_parts.backlog.dequeue()
+        match &mut self.form {
+            Form::Named(_, socket) => socket.backlog.dequeue(),
+            _ => None,
+        }
     }
 
     /// Marks the peer as gone.
     pub fn hang_up(&mut self)
         ensures { self.new ≡ hung_up self.old }
     {
-        self.link = Link::HungUp;
+        match &mut self.form {
+            Form::Named(_, socket) => socket.link = Link::HungUp,
+            _ => self.form = Form::HungUp(self.kind()),
+        }
+    }
+
+    /// Returns its parts, if it has a name.
+    #[inline(always)]
+    fn named(&self) -> Option<&NamedSocket>
+        ensures name { option_map (λ s. s.now.name) result ≡ self.now.name }
+        ensures backlog { option_map_or (λ s. s.now.backlog.waiting) result [] ≡ self.now.backlog }
+    {
+        match &self.form {
+            Form::Named(_, socket) => Some(socket),
+            Form::Idle(_) | Form::Connected(_, _) | Form::HungUp(_) => None,
+        }
+    }
+}
+
+impl Link {
+    /// Returns the same state once more.
+    fn duplicate(&self) -> Link
+        ensures { result ≡ self.now }
+    {
+        match self {
+            Link::Idle => Link::Idle,
+            Link::Listening(most) => Link::Listening(*most),
+            Link::Connected(peer) => Link::Connected(peer.duplicate()),
+            Link::HungUp => Link::HungUp,
+        }
+    }
+
+    /// Returns the state without the hint.
+    #[inline(always)]
+    fn state(&self) -> State
+        ensures { result ≡ state_of self.now }
+    {
+        match self {
+            Link::Idle => State::Idle,
+            Link::Listening(most) => State::Listening(*most),
+            Link::Connected(peer) => State::Connected(peer.ino()),
+            Link::HungUp => State::HungUp,
+        }
+    }
+
+    /// Returns the peer, if it is connected and the peer is live.
+    #[inline(always)]
+    fn peer(&self) -> Option<FileRef>
+        ensures some { IfSome result (λ peer. state_of self.now ≡ State.Connected peer) }
+        ensures none { IfNone result ((peer : ℕ) → ¬ (state_of self.now ≡ State.Connected peer)) }
+    {
+        match self {
+            Link::Connected(peer) => Some(peer.duplicate()),
+            Link::Idle | Link::Listening(_) | Link::HungUp => None,
+        }
     }
 }
 
@@ -285,10 +366,8 @@ impl<'a> Socket<'a> {
         ensures none { IfNone result (self.now.backlog ≡ []) }
     {
         let endpoint = self.endpoint;
-        match &endpoint.named_parts {
-            Some(named_parts) => Some(&named_parts.backlog),
-            None => None,
-        }
+        let socket = endpoint.named()?;
+        Some(&socket.backlog)
     }
 
     /// Returns how many embryos wait to be accepted.
@@ -296,9 +375,8 @@ impl<'a> Socket<'a> {
     pub fn embryos(&self) -> usize
         ensures { result ≡ length self.now.backlog }
     {
-        let endpoint = self.endpoint;
-        match &endpoint.named_parts {
-            Some(named_parts) => named_parts.backlog.len(),
+        match self.backlog() {
+            Some(backlog) => backlog.len(),
             None => 0,
         }
     }
