@@ -1,6 +1,6 @@
 //! The row of one file.
 ghost use Rattle.std.specs.Prelude.{◌≡◌, ◌<◌, [], ℕ, IfSome, IfNone, IfOk, OnOk, OnErr};
-ghost use Rattle.std.specs.Prelude.{None, length, nat_lt, true};
+ghost use Rattle.std.specs.Prelude.{None, false, is_none, length, nat_lt, true};
 ghost use Rattle.af_base.specs.Changes.{file_with, pushed};
 ghost use Rattle.af_base.specs.Places.{contents, queue_of};
 ghost use Rattle.af_base.specs.Refusals.{socket_of};
@@ -112,10 +112,11 @@ impl FileRow {
         }
     }
 
-    /// Appends a message to its queue, which is not full. A plain file has none, and the message is
-    /// dropped. It cannot fail, since there is room.
+    /// Appends a message to its queue, which is not full: it is a socket. It cannot fail, since
+    /// there is room.
     #[inline(always)]
     pub fn push(&mut self, nodes: &mut Slab<Node>, owner: Ino, message: Msg)
+        requires socket { is_none (socket_of (file_in nodes.old self.old)) ≡ false }
         requires chain { IsChain nodes.old self.old.chain owner }
         requires few { length (queue_of (file_in nodes.old self.old)) < MAX_MESSAGES }
         requires within { IsMessageWithin message }
@@ -126,9 +127,9 @@ impl FileRow {
         ensures others { SameElsewhere nodes.old nodes.new owner }
         ensures rest { self.new ≡ record self.old { chain = self.new.chain } }
     {
-        if let Some(_) = &self.endpoint {
-            pool::push(nodes, &mut self.chain, owner, message);
-        }
+        // Without a way on which it is dropped, a message moves to its node at once.
+        let _endpoint = self.endpoint.as_ref().unwrap();
+        pool::push(nodes, &mut self.chain, owner, message);
     }
 
     /// Removes the first message from its queue, if there is one. Returns its files, and the user

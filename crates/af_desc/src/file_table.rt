@@ -299,20 +299,20 @@ impl FileTable {
         pool::room(&mut self.nodes)
     }
 
-    /// Appends a message to the queue of that socket, which is not full. For a plain or unknown
-    /// file it drops the message. Cannot fail, since there is room.
+    /// Appends a message to the queue of that socket, which is not full. Cannot fail, since there is
+    /// room.
     #[inline(always)]
     #[tactic(auto, using(crate::proofs::TrackedTableView::messages, ordered_slab::proofs::Parts::parts))]
     pub fn push_message(&mut self, file: &FileRef, message: Msg)
+        requires socket { is_none (socket_in self.old.files file.now) ≡ false }
         requires few { length (queue_in self.old.files file.now) < MAX_MESSAGES }
         requires within { IsMessageWithin message }
         requires room { self.old.message_room ≡ true }
         ensures { self.new
             ≡ with_socket_and_room self.old file.now (pushed message) self.new.message_room }
     {
-        if let Some(row) = self.rows.get_mut(file) {
-            row.push(&mut self.nodes, file.ino(), message);
-        }
+        let row = self.rows.get_mut(file).unwrap();
+        row.push(&mut self.nodes, file.ino(), message);
     }
 
     /// Removes the first message from the queue of that socket, if there is one. Returns its files,

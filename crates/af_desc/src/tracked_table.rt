@@ -306,10 +306,11 @@ impl TrackedTable {
         Some(embryo)
     }
 
-    /// Appends a message to the queue of that socket, which is not full. For a plain or unknown
-    /// file it drops the message. Cannot fail, since there is room.
+    /// Appends a message to the queue of that socket, which is not full. Cannot fail, since there is
+    /// room.
     #[inline(always)]
     pub fn push_message(&mut self, file: &FileRef, message: Msg)
+        requires socket { is_none (socket_in self.old.files file.now) ≡ false }
         requires few { length (queue_in self.old.files file.now) < MAX_MESSAGES }
         requires within { IsMessageWithin message }
         requires room { self.old.message_room ≡ true }
