@@ -173,12 +173,12 @@ impl Msg {
     {
         let len = self.len();
         let Msg {
-            mut bytes,
+            bytes,
             begin,
             user,
             attached,
         } = self;
-        bytes.keep(begin as usize, len.min(max));
         *taken = Taken::new(bytes, attached, user, len > max);
+        taken.keep_bytes(begin as usize, len.min(max));
     }
 }

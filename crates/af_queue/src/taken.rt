@@ -1,5 +1,5 @@
 //! The result of a receive.
-ghost use Rattle.std.specs.Prelude.{◌≡◌, ◌≤◌, ◌++◌, OnErr, OnOk, [], length};
+ghost use Rattle.std.specs.Prelude.{◌≡◌, ◌≤◌, ◌+◌, ◌++◌, OnErr, OnOk, [], drop, length, take};
 ghost use Rattle.smallvec.specs.SmallVec.{small_vec_len};
 ghost use Rattle.af_queue.specs.TakenView.{nothing_received, with_files_of};
 
@@ -71,6 +71,19 @@ impl Taken {
         ensures err { OnErr result (self.new ≡ self.old) }
     {
         self.bytes.extend_from_slice(bytes)
+    }
+
+    /// Keeps this many of its bytes from that position on, and drops the others. Takes no memory.
+    #[inline(always)]
+    pub(crate) fn keep_bytes(&mut self, from: usize, count: usize)
+        requires { from + count ≤ length self.old.message.bytes }
+        ensures { self.new ≡ record self.old {
+          message = record self.old.message {
+            bytes = take count (drop from self.old.message.bytes);
+          };
+        } }
+    {
+        self.bytes.keep(from, count);
     }
 
     /// Sets its bytes.
