@@ -1,6 +1,6 @@
 //! The descriptors that go with a message, as the last words of a line list them.
-ghost use Rattle.std.specs.Prelude.{◌≡◌, ◌≤◌, ◌<◌, ◌==◌, ◌++◌, IfErr, IfOk, IfSome, None, OnOk};
-ghost use Rattle.std.specs.Prelude.{Some, length, position, replicate};
+ghost use Rattle.std.specs.Prelude.{◌≡◌, ◌≤◌, ◌<◌, ◌==◌, ◌++◌, [], IfErr, IfOk, IfSome, None};
+ghost use Rattle.std.specs.Prelude.{OnOk, Some, length, position, replicate};
 ghost use Rattle.std.specs.Option.{option_map};
 ghost use Rattle.scm_lines.specs.Words.{words_of};
 ghost use Rattle.scm_lines.specs.Attached.{item_of, attached_of};
@@ -58,9 +58,29 @@ fn push_copies(fds: &mut Descriptors, fd: Fd, copies: usize) -> Result<(), Alloc
     Ok(())
 }
 
-/// Reads the descriptors of all items that are left. The list never holds more than a line may
-/// have.
+/// Reads the descriptors of all items that are left into an empty list. The list never holds more
+/// than a line may have.
 #[tactic(auto, using(crate::proofs::AttachedLemmas::items_before_more, crate::proofs::AttachedLemmas::items_before_over))]
+#[inline(always)]
+fn read_items(fds: &mut Descriptors, bytes: &[u8]) -> Result<(), LineFault>
+    requires { fds.old.items ≡ [] }
+    ensures ok { OnOk result (attached_of (words_of bytes.now) ≡ Some fds.new.items) }
+    ensures err { IfErr result
+        (λ f. f ≡ fault.Unreadable → attached_of (words_of bytes.now) ≡ None) }
+{
+    let mut rest = bytes;
+    while let Some((word, tail)) = first_word(rest) {
+        let (fd, copies) = item(word).ok_or(LineFault::Unreadable)?;
+        if fds.len() + copies > MAX_ATTACHED {
+            return Err(LineFault::Unreadable);
+        }
+        push_copies(fds, fd, copies)?;
+        rest = tail;
+    }
+    Ok(())
+}
+
+/// Reads the descriptors of all items that are left.
 #[inline(always)]
 pub fn attached(alloc: Global, bytes: &[u8]) -> Result<Descriptors, LineFault>
     ensures ok { IfOk result (λ fds. attached_of (words_of bytes.now) ≡ Some fds.items) }
@@ -68,14 +88,6 @@ pub fn attached(alloc: Global, bytes: &[u8]) -> Result<Descriptors, LineFault>
         (λ f. f ≡ fault.Unreadable → attached_of (words_of bytes.now) ≡ None) }
 {
     let mut fds = SmallVec::new(alloc);
-    let mut rest = bytes;
-    while let Some((word, tail)) = first_word(rest) {
-        let (fd, copies) = item(word).ok_or(LineFault::Unreadable)?;
-        if fds.len() + copies > MAX_ATTACHED {
-            return Err(LineFault::Unreadable);
-        }
-        push_copies(&mut fds, fd, copies)?;
-        rest = tail;
-    }
+    read_items(&mut fds, bytes)?;
     Ok(fds)
 }

@@ -21,7 +21,7 @@ use crate::version::{Version, has_verb};
 use crate::words::first_word;
 
 /// The kind that a word has to be.
-#[derive(Clone, Copy, PartialEq, Eq)]
+#[derive(Clone, Copy)]
 enum Wanted {
     Number,
     Type,
@@ -31,7 +31,7 @@ enum Wanted {
 }
 
 /// The kind that the last words of a line have to be.
-#[derive(Clone, Copy, PartialEq, Eq)]
+#[derive(Clone, Copy)]
 enum Last {
     /// No word.
     Nothing,
