@@ -5,7 +5,7 @@ use af_base::listing::{ListedFile, ListedTable};
 use std::alloc::AllocError;
 
 /// A place that holds a file.
-#[derive(Clone, Copy, Debug, PartialEq, Eq)]
+#[derive(Clone, Copy)]
 pub enum Holder {
     /// An open descriptor of a process.
     Descriptor(Pid, Fd),
@@ -16,7 +16,7 @@ pub enum Holder {
 }
 
 /// A file, and a place that holds it.
-#[derive(Clone, Copy, Debug, PartialEq, Eq)]
+#[derive(Clone, Copy)]
 pub struct HeldFile {
     /// The file.
     pub ino: Ino,

@@ -11,7 +11,7 @@ use scm_lines::only_word;
 use std::alloc::{AllocError, Global};
 
 /// A line that asks about the world, or about the language. It changes nothing.
-#[derive(Clone, Copy, Debug, PartialEq, Eq)]
+#[derive(Clone, Copy)]
 pub enum Question {
     /// `who`: what holds each file?
     Who,
