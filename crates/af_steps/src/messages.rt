@@ -217,12 +217,11 @@ impl Engine {
         let Some(file) = self.prepare_receive(pid, on, max_bytes, max_fds, &mut fds)? else {
             return Ok(Received::End);
         };
-        let max = max_bytes as usize;
+        let (max, numbers) = (max_bytes as usize, fds.as_slice());
         // A file in a table is no garbage of a running pass.
         self.store.lemma_is_spared();
-        self.store.room_for(pid, fds.len())?;
-        self.store
-            .take_msg(&file, max, pid, fds.as_slice(), &mut taken)?;
+        self.store.room_for(pid, numbers.len())?;
+        self.store.take_msg(&file, max, pid, numbers, &mut taken)?;
         self.store.release();
         Ok(receive_answer(taken, fds))
     }
@@ -249,11 +248,11 @@ impl Engine {
         let Some(file) = self.prepare_receive(pid, on, max_bytes, max_fds, &mut fds)? else {
             return Ok(Received::End);
         };
-        let max = max_bytes as usize;
+        let (max, numbers) = (max_bytes as usize, fds.as_slice());
         // A file in a table is no garbage of a running pass.
         self.store.lemma_is_spared();
-        self.store.room_for(pid, fds.len())?;
-        let seen = self.store.peek_msg(&file, max, pid, fds.as_slice())?;
+        self.store.room_for(pid, numbers.len())?;
+        let seen = self.store.peek_msg(&file, max, pid, numbers)?;
         self.store.release();
         Ok(receive_answer(seen, fds))
     }
