@@ -12,10 +12,6 @@ mod order;
 #[cfg(test)]
 mod owned;
 #[cfg(test)]
-mod plain;
-#[cfg(test)]
 mod steps;
-#[cfg(test)]
-mod table;
 #[cfg(test)]
 mod units;

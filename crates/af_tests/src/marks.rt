@@ -2,7 +2,7 @@
 //! refusal.
 
 use af_base::events::{SockType, State};
-use af_base::ids::{FileRef, Ino};
+use af_base::ids::FileRef;
 use af_desc::Files;
 use af_ledger::Place;
 use std::alloc::AllocError;
@@ -12,44 +12,6 @@ use std::process::Abort;
 fn file(rt: &impl Abort, files: &mut Files) -> Result<FileRef, AllocError> {
     assert!(rt; !files.is_full(1));
     files.make_plain(&Place::Table)
-}
-
-/// Two files are there when a pass begins, and a third is made after that; a fourth never was.
-fn marks_two(rt: &impl Abort, files: &mut Files) -> Result<(FileRef, FileRef), AllocError> {
-    let (first, second) = (file(rt, files)?, file(rt, files)?);
-    files.start_epoch();
-    let third = file(rt, files)?;
-    let stranger = FileRef::new(Ino(4), 0);
-    for file in [&second, &first, &second, &third, &stranger] {
-        files.shade(file);
-    }
-    assert!(rt; files.is_marked(&first) && files.is_marked(&second));
-    assert!(rt; !files.is_marked(&third) && !files.is_marked(&stranger));
-    Ok((first, second))
-}
-
-/// One of the two is scanned, and the other is gone. The next pass has marked none.
-fn passes(rt: &impl Abort, files: &mut Files) -> Result<(), AllocError> {
-    let (first, second) = marks_two(rt, files)?;
-    files.blacken(&second);
-    assert!(rt; files.is_marked(&second));
-    assert!(rt;
-        files
-            .next_grey()
-            .is_some_and(|grey| grey.ino() == first.ino())
-    );
-    assert!(rt; files.socket(&first).is_none());
-    files.remove(&first);
-    assert!(rt; files.next_grey().is_none() && !files.is_marked(&first));
-    files.start_epoch();
-    assert!(rt; !files.is_marked(&second));
-    Ok(())
-}
-
-#[test]
-fn a_pass_marks(rt: HostRuntime) -> Result<(), AllocError> {
-    let mut files = Files::new(rt.alloc());
-    passes(&rt, &mut files)
 }
 
 /// Drops the one descriptor of a file. Returns whether this freed the file.
