@@ -12,7 +12,7 @@ use af_base::ids::FileRef;
 
 impl Holdings {
     /// Begins a pass over the present files: none is marked. Costs the same for any number of
-    /// files, but for one time in 2^64.
+    /// files, except once in 2^64 epochs, when it clears each mark.
     pub(crate) fn start_epoch(&mut self)
         ensures unmarked { (f : ℕ) → is_marked self.new.marks f ≡ false }
         ensures known { (f : ℕ) → knows self.new.marks f ≡ knows self.old.marks f }
@@ -30,7 +30,7 @@ impl Holdings {
         self.files.end_pass();
     }
 
-    /// Marks a file grey, if it was born before the pass and is not marked.
+    /// Marks a file grey, if it was there when the pass began and is not marked.
     #[inline(always)]
     pub(crate) fn shade(&mut self, file: &FileRef)
         ensures { self.new ≡ record self.old { marks = shaded file.now self.old.marks } }

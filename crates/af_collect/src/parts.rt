@@ -47,8 +47,8 @@ impl Collector {
         !matches!(self.progress.stage, Stage::Resting)
     }
 
-    /// Frees unheld files, one after another. While marking, it first marks the files that each one
-    /// loses; while sweeping, it counts the freed garbage.
+    /// Frees the unreferenced files, one after another. While marking, it first marks the files
+    /// that each one holds; while sweeping, it counts the freed sockets that were garbage.
     #[inline(never)]
     pub fn release(&mut self)
         requires kept { KeepsPass self.old }
@@ -71,8 +71,8 @@ impl Collector {
         }
     }
 
-    /// Drops the first message or embryo that an unheld file holds. While marking, it first marks
-    /// the files there.
+    /// Drops the first message or embryo that an unreferenced file holds. While marking, it first
+    /// marks the files there.
     #[inline(always)]
     fn drop_place(&mut self, file: &FileRef)
         requires kept { KeepsPass self.old }
@@ -131,7 +131,7 @@ impl Collector {
         }
     }
 
-    /// Marks the files that an unheld file is about to lose, while marking.
+    /// Marks the files that an unreferenced file is about to lose, while marking.
     fn shade_first(&mut self, file: &FileRef)
         requires kept { KeepsPass self.old }
         requires live { IsLive self.old.places.world file.now }
@@ -148,7 +148,7 @@ impl Collector {
         }
     }
 
-    /// Frees an unheld file that holds nothing.
+    /// Frees an unreferenced file that holds nothing.
     fn take_away(&mut self, file: &FileRef)
         requires kept { KeepsPass self.old }
         requires live { IsLive self.old.places.world file.now }

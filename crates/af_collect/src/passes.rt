@@ -103,7 +103,7 @@ impl Store {
         ensures progress { self.new.progress
             ≡ record self.old.progress { reclaimed = self.new.progress.reclaimed } }
     {
-        // Most steps let nothing go, and then there is nothing to call.
+        // Most steps leave nothing unreferenced, and then nothing is called.
         let Some(_) = self.parts.places.next_unreferenced() else {
             return;
         };

@@ -286,7 +286,8 @@ fn drop_descriptor(progress: &PassProgress, files: &mut Files, file: &FileRef)
     files.drop_one(&Place::Table, file);
 }
 
-/// Drops the same of the file that a descriptor referred to, if any.
+/// Drops the reference of a descriptor to the file that was replaced there, if any. The file is
+/// marked first, while marking. Takes no memory.
 #[inline(always)]
 fn drop_replaced(progress: &PassProgress, files: &mut Files, was: Option<FileRef>)
     requires { IfSome was (λ f. IsCounted Table (count_in_map files.old.counts f)) }

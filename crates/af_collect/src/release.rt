@@ -1,4 +1,4 @@
-//! The freeing of unheld files, one file and one place at a time, without memory.
+//! The freeing of unreferenced files, one file and one place at a time, without memory.
 ghost use Rattle.std.specs.Prelude.{◌≡◌, ◌<◌, [], IfSome, IfNone, IsTrue, drop, false, length};
 ghost use Rattle.std.specs.Prelude.{nat_eq, true};
 ghost use Rattle.af_base.specs.World.{IsLive};
@@ -86,7 +86,7 @@ impl Holdings {
         }
     }
 
-    /// Returns a live file that no place holds, if there is one.
+    /// Returns an unreferenced file, if there is one.
     pub(crate) fn next_unreferenced(&self) -> Option<FileRef>
         ensures live { IfSome result (λ f. IsLive self.now.world f) }
         ensures unheld { IfSome result (λ f. refs self.now.world f ≡ 0) }
@@ -95,8 +95,8 @@ impl Holdings {
         self.files.next_unreferenced()
     }
 
-    /// Frees an unheld and empty file, and hangs up its peer. Returns whether it was a socket that
-    /// the pass had still to mark.
+    /// Frees an unreferenced file that holds nothing, and hangs up its peer. Returns whether it was
+    /// a socket that the pass had still to mark. Takes no memory.
     pub(crate) fn take_away(&mut self, file: &FileRef) -> bool
         requires live { IsLive self.old.world file.now }
         requires unheld { refs self.old.world file.now ≡ 0 }

@@ -71,7 +71,8 @@ fn shade_queue(places: &mut Holdings, file: &FileRef)
     }
 }
 
-/// Marks the same, some at a time.
+/// Marks the files attached to the messages of a longer queue, 16 at a time: the queue cannot stay
+/// lent while marks change.
 #[inline(never)]
 fn shade_attached(places: &mut Holdings, file: &FileRef)
     ensures { Shades (attached_in (queue_at places.old.world file.now)) places.old places.new }

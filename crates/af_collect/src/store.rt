@@ -143,8 +143,7 @@ impl Store {
         places.files.room_for_message()
     }
 
-    /// Tells from now on which files are freed. Both lists are empty then. On an error nothing has
-    /// changed.
+    /// Begins to list freed files, and empties both lists. On an error nothing has changed.
     pub fn tell_released(&mut self) -> Result<(), AllocError>
         ensures ok { OnOk result (self.new ≡ record self.old {
           since = record {
@@ -160,7 +159,7 @@ impl Store {
         places.files.tell_released()
     }
 
-    /// Tells from now on whose readiness may have changed. Both lists are empty then. On an error
+    /// Begins to list sockets whose readiness may have changed, and empties both lists. On an error
     /// nothing has changed.
     pub fn tell_changed(&mut self) -> Result<(), AllocError>
         ensures ok { OnOk result (self.new ≡ record self.old {

@@ -41,7 +41,7 @@ impl Collector {
         };
     }
 
-    /// Does as many units as the budget has. Returns whether the pass was over before: then no
+    /// Does at most as many units as the budget has. Returns whether the pass is over: then no
     /// garbage of its begin is left, and the number of reclaimed sockets is the number of those
     /// that were garbage.
     pub fn units(&mut self, budget: u32) -> bool
@@ -64,7 +64,7 @@ impl Collector {
         ensures counted { result ≡ true
             → IsGarbageCount self.old.begun.value.world self.new.progress.reclaimed }
     {
-        // Where nothing is in flight a table holds each file, and nothing is garbage.
+        // If nothing is in flight and no embryo waits, a table holds each file: nothing is garbage.
         if self.places.is_calm() {
             return true;
         }
@@ -101,7 +101,7 @@ impl Collector {
         ensures counted { result ≡ 0
             → IsGarbageCount self.old.begun.value.world self.new.progress.reclaimed }
     {
-        // Where all are marked no garbage of the begin is live.
+        // If each live file of the begin is marked, none of its garbage is live.
         if self.places.files().are_marked() {
             return 0;
         }
@@ -247,7 +247,7 @@ impl Collector {
     }
 
     /// Sweeps a file: if it is not marked, empties its queue and its backlog, and frees the files
-    /// that are then unheld.
+    /// that are then unreferenced.
     fn sweep(&mut self, file: &FileRef)
         requires kept { KeepsPass self.old }
         requires sweeping { self.old.progress.stage ≡ stage.Sweeping }

@@ -26,7 +26,8 @@ impl Files {
         }
     }
 
-    /// Returns the same for the file of this number, by a binary search.
+    /// Returns the counts of the file of this number, by a binary search; all are 0 for an unknown
+    /// one.
     fn count(&self, ino: Ino) -> Count
         ensures { result ≡ count_in_map self.now.counts ino }
     {

@@ -189,7 +189,7 @@ impl FileTable {
         Some(&row.count)
     }
 
-    /// Marks the peer of that socket as gone.
+    /// Hangs up that socket, whose peer is freed.
     #[inline(always)]
     #[tactic(auto, using(crate::proofs::TrackedTableView::rows, ordered_slab::proofs::Parts::parts))]
     pub fn hang_up(&mut self, file: &FileRef)
@@ -543,7 +543,7 @@ impl FileTable {
         }
     }
 
-    /// Keeps the position of a file in that list: a hint, which no contract sees.
+    /// Sets the position of a file in the list of dirty ones: a hint, which no contract sees.
     #[inline(always)]
     #[tactic(auto, using(crate::proofs::TrackedTableView::rows, ordered_slab::proofs::Parts::parts))]
     pub fn set_list_index(&mut self, file: &FileRef, index: u32)

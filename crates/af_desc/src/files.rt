@@ -43,19 +43,20 @@ const RESERVED_AT_ONCE: usize = 64;
 pub struct Files {
     pub(crate) alloc: Global,
     pub(crate) rows: TrackedTable,
-    /// The files that no place holds.
+    /// The unreferenced files.
     pub(crate) unreferenced: Vec<FileRef>,
-    /// The files that are marked and not scanned.
+    /// The grey files: marked, and not scanned.
     pub(crate) grey: Vec<FileRef>,
-    /// The pass: what an earlier one marked is not marked.
+    /// The present epoch: no mark of an earlier one counts. A pass's begin and its end each take
+    /// the next one.
     pub(crate) epoch: u64,
-    /// Files from this number on were born since the pass began.
+    /// Files from this number on were made since the pass began.
     pub(crate) bound: u64,
     pub(crate) next: u64,
     pub(crate) names: Names,
-    /// The number of places in backlogs. At its largest it does not change.
+    /// At least the number of embryos: at the largest `u64` it no longer changes.
     pub(crate) embryos: u64,
-    /// The number of files that the pass has still to mark.
+    /// At least the number of files below the bound that are not marked.
     pub(crate) white: usize,
 }
 
@@ -276,7 +277,7 @@ impl Files {
         (endpoint, unmarked)
     }
 
-    /// Hangs up the peer of a socket that is gone, if it had one. Takes no memory.
+    /// Hangs up the peer of a socket that was removed, if it had one. Takes no memory.
     #[inline(always)]
     pub(crate) fn hang_up_peer(&mut self, gone: &Option<Endpoint>)
         ensures { self.new ≡ record self.old { files = after_end gone.now self.old.files } }
@@ -434,8 +435,7 @@ impl Files {
 }
 
 impl Files {
-    /// Tells from now on which files are freed. Both lists are empty then. On an error nothing has
-    /// changed.
+    /// Begins to list freed files, and empties both lists. On an error nothing has changed.
     pub fn tell_released(&mut self) -> Result<(), AllocError>
         ensures ok { OnOk result (self.new ≡ record self.old {
           since = record {
@@ -450,7 +450,7 @@ impl Files {
         self.rows.tell_released()
     }
 
-    /// Tells from now on whose readiness may have changed. Both lists are empty then. On an error
+    /// Begins to list sockets whose readiness may have changed, and empties both lists. On an error
     /// nothing has changed.
     pub fn tell_changed(&mut self) -> Result<(), AllocError>
         ensures ok { OnOk result (self.new ≡ record self.old {
@@ -527,7 +527,7 @@ fn reserve(
     reserve_anew(rows, unreferenced, grey, files)
 }
 
-/// Does the same, by a look at each of them.
+/// Reserves as `reserve` does, where there is not enough room: grows each list that is too short.
 #[cold]
 #[inline(never)]
 fn reserve_anew(
@@ -558,7 +558,7 @@ fn reserve_anew(
     rows.reserve(files)
 }
 
-/// Frees the name of a socket that is gone, if it had one.
+/// Frees the name of a socket that was removed, if it had one.
 #[inline(always)]
 fn free_name(names: &mut Names, gone: &Option<Endpoint>)
     ensures { (files : world.Map world.File) (f : ℕ) → AreNamed names.old files

@@ -22,7 +22,7 @@ use af_mark::{Color, Mark, clamp_index};
 
 impl Files {
     /// Begins a pass over the present files: none is marked. Costs the same for any number of
-    /// files, but for one time in 2^64.
+    /// files, except once in 2^64 epochs, when it clears each mark.
     pub fn start_epoch(&mut self)
         ensures unmarked { (f : ℕ) → is_marked self.new.marks f ≡ false }
         ensures known { (f : ℕ) → knows self.new.marks f ≡ knows self.old.marks f }
@@ -35,7 +35,7 @@ impl Files {
         self.white = self.rows.len();
     }
 
-    /// Ends a pass: no file is marked, and none is still to be.
+    /// Ends a pass: no file is marked, and none is to be marked.
     pub fn end_pass(&mut self)
         ensures unmarked { (f : ℕ) → is_marked self.new.marks f ≡ false }
         ensures known { (f : ℕ) → knows self.new.marks f ≡ knows self.old.marks f }
@@ -57,14 +57,14 @@ impl Files {
         self.white == 0
     }
 
-    /// Returns the bound of the pass: files from this number on were born since it began.
+    /// Returns the bound of the pass: files from this number on were made since it began.
     pub fn bound(&self) -> Ino
         ensures { result ≡ self.now.marks.bound }
     {
         Ino(self.bound)
     }
 
-    /// Marks a file grey, if it was born before the pass and is not marked.
+    /// Marks a file grey, if it was there when the pass began and is not marked.
     #[inline(always)]
     pub fn shade(&mut self, file: &FileRef)
         ensures { self.new ≡ record self.old { marks = shaded file.now self.old.marks } }
@@ -180,8 +180,8 @@ impl Files {
     }
 }
 
-/// Removes the file from the list of the grey files once, if it is there. The last takes its place,
-/// which is kept beside that one's mark.
+/// Removes the file from the list of grey files, if it is there. The last file takes its position,
+/// which its mark then keeps as a hint.
 #[inline(always)]
 fn remove_listed(rows: &mut TrackedTable, grey: &mut Vec<FileRef>, ino: Ino, at: usize)
     ensures each { (f : ℕ) → count_in f grey.new.items
@@ -199,7 +199,7 @@ fn remove_listed(rows: &mut TrackedTable, grey: &mut Vec<FileRef>, ino: Ino, at:
     }
 }
 
-/// Keeps a position in the list beside a file's mark.
+/// Sets the position in the list of grey files that a file's mark keeps: a hint.
 #[inline(always)]
 fn set_hint(rows: &mut TrackedTable, file: &FileRef, at: u32)
     ensures { rows.new ≡ record rows.old { marks = change_at (placed at) rows.old.marks file.now } }
@@ -210,7 +210,7 @@ fn set_hint(rows: &mut TrackedTable, file: &FileRef, at: u32)
     }
 }
 
-/// Returns the pass after this one: marks of earlier passes are none of it.
+/// Returns the epoch after this one: no mark of an earlier epoch counts in it.
 fn next_epoch(rows: &mut TrackedTable, epoch: u64) -> u64
     requires upto { AreUpTo epoch rows.old.marks }
     requires begins { map.contains_key rows.old.files 0 ≡ false }
@@ -225,7 +225,7 @@ fn next_epoch(rows: &mut TrackedTable, epoch: u64) -> u64
     if epoch < u64::MAX {
         return epoch + 1;
     }
-    // Once in 2^64 passes.
+    // Once in 2^64 epochs.
     clear_all_marks(rows);
     1
 }
@@ -249,6 +249,6 @@ fn clear_all_marks(rows: &mut TrackedTable)
         last = file.ino();
         near = at;
     }
-    // And nobody else has one.
+    // No other number has a mark.
     rows.table.lemma_are_one();
 }

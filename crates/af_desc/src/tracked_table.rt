@@ -240,7 +240,7 @@ impl TrackedTable {
         self.table.remove(file, epoch)
     }
 
-    /// Marks the peer of that socket as gone.
+    /// Hangs up that socket, whose peer is freed.
     #[inline(always)]
     pub fn hang_up(&mut self, file: &FileRef)
         ensures { self.new ≡ with_socket self.old file.now hung_up }
@@ -474,8 +474,7 @@ impl TrackedTable {
         self.table.scan(file, epoch)
     }
 
-    /// Tells from now on which files are freed. Both lists are empty then. On an error nothing has
-    /// changed.
+    /// Begins to list freed files, and empties both lists. On an error nothing has changed.
     pub fn tell_released(&mut self) -> Result<(), AllocError>
         ensures ok { OnOk result (self.new ≡ record self.old {
           since = record {
@@ -502,7 +501,7 @@ impl TrackedTable {
         Ok(())
     }
 
-    /// Tells from now on whose readiness may have changed. Both lists are empty then. On an error
+    /// Begins to list sockets whose readiness may have changed, and empties both lists. On an error
     /// nothing has changed.
     pub fn tell_changed(&mut self) -> Result<(), AllocError>
         ensures ok { OnOk result (self.new ≡ record self.old {
@@ -639,7 +638,7 @@ fn tell_released(
     *space = (*space).min(released.capacity() - released.len());
 }
 
-/// Removes a freed file from the list of dirty ones.
+/// Removes a freed file from the list of dirty ones, if it is there.
 #[cold]
 #[inline(never)]
 fn remove_listed(table: &mut FileTable, changed: &mut Vec<FileRef>, file: &FileRef)
@@ -659,7 +658,7 @@ fn remove_listed(table: &mut FileTable, changed: &mut Vec<FileRef>, file: &FileR
     update_moved_index(table, changed.as_slice(), at);
 }
 
-/// Keeps the position of the file that took that place in the list: a hint.
+/// Sets the position of the file that took that place in the list: a hint.
 fn update_moved_index(table: &mut FileTable, changed: &[FileRef], at: Option<usize>)
     ensures { table.new ≡ table.old }
 {

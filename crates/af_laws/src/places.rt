@@ -55,7 +55,7 @@ pub fn fork_counts()
     ensures { ForkCounts }
 {}
 
-/// A process that is gone is as many references less to a file as its table had numbers for it.
+/// An exit takes from a file as many references as the process's table had numbers for it.
 pub fn exit_counts()
     ensures { ExitCounts }
 {}

@@ -1,4 +1,4 @@
-//! Laws of settling: unheld files are freed.
+//! Laws of settling: unheld files are freed (`Unheld` in `af_base/specs`).
 ghost use Rattle.af_laws.specs.Settling.{SettlesToOne, SettlesToSome, SettledStays};
 ghost use Rattle.af_laws.specs.Settling.{SettlingSettles, SettlingTwiceIsOnce};
 ghost use Rattle.af_laws.specs.Settling.{HeldWorldIsSettled, CyclesStay, UnplacedIsUnheld};
@@ -34,7 +34,7 @@ pub fn held_world_is_settled()
     ensures { HeldWorldIsSettled }
 {}
 
-/// Files that hold one another never go by themselves.
+/// Files that hold one another are never freed by settling.
 pub fn cycles_stay()
     ensures { CyclesStay }
 {}
