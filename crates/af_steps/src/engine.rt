@@ -13,7 +13,7 @@ use std::alloc::{AllocError, Global};
 use std::marker::Model;
 use thiserror::Error;
 
-/// A machine that does one event after another.
+/// An engine that does one event after another and answers each.
 pub struct Engine {
     pub(crate) alloc: Global,
     pub(crate) store: Store,
@@ -54,7 +54,7 @@ impl Model for Engine {
     ghost invariant = { λ e. IsSound e.store.world × (e.last_pass ≤ MAX_PASS) };
 }
 
-/// A run ended early, since room for one more reply was refused.
+/// A run that ended early, since memory for one more reply was refused.
 #[derive(Debug, Drop, Error)]
 #[error("no memory for a reply")]
 pub struct RunStopped {
@@ -96,8 +96,8 @@ impl Engine {
         }
     }
 
-    /// Does the same for an event that the caller gives away: the bytes of a send are moved into
-    /// the message, and not copied.
+    /// Does one event as `step`, and consumes it: the bytes of a send are moved into the message,
+    /// and not copied.
     pub fn step_owned(&mut self, event: Event) -> Reply
         ensures { Step self.old event result self.new }
     {
@@ -142,7 +142,7 @@ impl Engine {
         }
     }
 
-    /// Does the same for a step that is given away.
+    /// Does a step of a process, and consumes it.
     #[inline(always)]
     fn step_of_owned(&mut self, pid: Pid, step: events::Step) -> Reply
         ensures { Answers self.old pid step result self.new }
@@ -156,7 +156,8 @@ impl Engine {
         }
     }
 
-    /// Does these events in order. The error holds the replies of those that were done.
+    /// Does these events in order, and returns their replies. If memory for one more reply is
+    /// refused, the error has the replies of the events that were done.
     pub fn run(&mut self, events: &[Event]) -> Result<Vec<Reply>, RunStopped>
         ensures whole { IfOk result (λ replies. length replies.items ≡ length events.now) }
         ensures run { IfOk result (λ replies.

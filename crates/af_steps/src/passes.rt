@@ -13,7 +13,7 @@ use af_base::limits::{MAX_BUDGET, MAX_PASS};
 pub struct Finished {
     /// The number of the pass, from 1 on.
     pub pass: u64,
-    /// How many sockets were garbage.
+    /// How many sockets were garbage when it began.
     pub reclaimed: u64,
 }
 

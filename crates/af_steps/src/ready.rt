@@ -33,7 +33,7 @@ impl Engine {
         Ok(self.ready_at(&file))
     }
 
-    /// Returns the readiness of the file of this reference, which is live. No search.
+    /// Returns what the file of this reference, which is live, is ready for (poll(2)). No search.
     pub fn ready_at(&self, file: &FileRef) -> Ready
         requires { IsLive self.now.world file.now }
         ensures { ready self.now.world file.now ≡ Some result }
@@ -70,7 +70,7 @@ fn writes(store: &Store, socket: &Socket) -> bool
     }
 }
 
-/// Returns whether the queue of a file has room for a message more.
+/// Returns whether the queue of a file has room for one message more.
 fn has_room(store: &Store, file: &FileRef) -> bool
     ensures { result ≡ nat_lt (length (queue_at store.now.world file.now)) MAX_MESSAGES }
 {
@@ -80,7 +80,7 @@ fn has_room(store: &Store, file: &FileRef) -> bool
     }
 }
 
-/// Returns whether the peer of the socket is gone.
+/// Returns whether the peer of the socket was freed.
 fn is_hung_up(socket: &Socket) -> bool
     ensures { result ≡ is_hung_up socket.now.state }
 {

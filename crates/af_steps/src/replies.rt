@@ -1,5 +1,5 @@
-//! Steps that answer a number or a message, each with its reply. Each is a function of its own, so
-//! that no other step clears room on the stack for its answer.
+//! Steps that answer a number or a message, each with its reply. Each is a function of its own:
+//! the compiler zeroes a function's answers at its start, also those of steps that it does not do.
 ghost use Rattle.af_base.specs.declared.events.Step.TheVariants.{Accept, Dup, Dup2, Fork, Open};
 ghost use Rattle.af_base.specs.declared.events.Step.TheVariants.{Pair, Peek, Recv, Send, Socket};
 ghost use Rattle.af_steps.specs.Outcome.{Answers};

@@ -15,8 +15,9 @@ use af_base::limits::{MAX_BACKLOG, MAX_NAME};
 use af_desc::Socket;
 
 impl Engine {
-    /// Makes two sockets that are connected to each other (socketpair(2)). Answers the two lowest
-    /// free numbers, rising. Refused, in this order: ESRCH, EMFILE, ENFILE, ENOMEM.
+    /// Makes two sockets that are connected to each other (socketpair(2)). Answers their
+    /// descriptors, the process's two lowest free numbers, rising. Refused, in this order: ESRCH,
+    /// EMFILE, ENFILE, ENOMEM.
     pub fn pair(&mut self, pid: Pid, kind: SockType) -> Result<(Fd, Fd), Errno>
         ensures done { IfOk result (λ fds.
             Does self.old pid (Step.Pair kind) (Reply.Fds fds.0 fds.1) self.new) }
@@ -32,8 +33,8 @@ impl Engine {
         Ok((lower, higher))
     }
 
-    /// Makes a socket (socket(2)). Answers its lowest free number. Refused, in this order: ESRCH,
-    /// EMFILE, ENFILE, ENOMEM.
+    /// Makes a socket (socket(2)). Answers its descriptor, the process's lowest free number.
+    /// Refused, in this order: ESRCH, EMFILE, ENFILE, ENOMEM.
     pub fn socket(&mut self, pid: Pid, kind: SockType) -> Result<Fd, Errno>
         ensures done { IfOk result (λ fd.
             Does self.old pid (Step.Socket kind) (Reply.Fd fd) self.new) }
@@ -103,9 +104,9 @@ impl Engine {
         Ok(())
     }
 
-    /// Accepts the embryo that waits longest at a listener (accept(2)). Answers the process's
-    /// lowest free number, which the embryo gets. Refused, in this order: ESRCH, EBADF, ENOTSOCK,
-    /// EINVAL, EAGAIN, EMFILE, ENOMEM.
+    /// Accepts the embryo that waits longest at a listener (accept(2)). Answers the embryo's new
+    /// descriptor, the process's lowest free number. Refused, in this order: ESRCH, EBADF,
+    /// ENOTSOCK, EINVAL, EAGAIN, EMFILE, ENOMEM.
     pub fn accept(&mut self, pid: Pid, on: Fd) -> Result<Fd, Errno>
         ensures done { IfOk result (λ fd.
             Does self.old pid (Step.Accept on) (Reply.Fd fd) self.new) }
@@ -188,7 +189,7 @@ pub(crate) fn check_accept(socket: &Socket) -> Result<(), Errno>
     Ok(())
 }
 
-/// Returns whether it was never connected and does not listen.
+/// Returns whether the socket was never connected and does not listen.
 fn is_idle(socket: &Socket) -> bool
     ensures { IsTrue result ↔ (socket.now.state ≡ State.Idle) }
 {

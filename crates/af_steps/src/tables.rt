@@ -10,9 +10,10 @@ use af_base::ids::{Fd, Pid, Uid};
 use af_base::limits::MAX_NOFILE;
 
 impl Engine {
-    /// Starts a process, as after fork(2) and setuid(2), with an empty table. A privileged one is
-    /// not held to its user's share of descriptors in flight (unix(7), CAP_SYS_RESOURCE). Answers
-    /// its pid. Refused, in this order: ERANGE (the limit is over 1,024), EAGAIN, ENOMEM.
+    /// Starts a process, as after fork(2) and setuid(2), with an empty table and this limit on its
+    /// descriptors (RLIMIT_NOFILE). A privileged one is not held to its user's share of descriptors
+    /// in flight (unix(7), CAP_SYS_RESOURCE). Answers its pid. Refused, in this order: ERANGE (the
+    /// limit is over 1,024), EAGAIN, ENOMEM.
     pub fn spawn(&mut self, uid: Uid, nofile: u32, privileged: bool) -> Result<Pid, Errno>
         ensures done { IfOk result (λ pid. Starts self.old uid nofile privileged pid self.new) }
         ensures refused { IfErr result (λ e. RefusesStart self.old nofile e self.new) }
@@ -28,8 +29,8 @@ impl Engine {
         Ok(pid)
     }
 
-    /// Opens a plain file (open(2)). Answers the process's lowest free number. Refused, in this
-    /// order: ESRCH, EMFILE, ENFILE, ENOMEM.
+    /// Opens a plain file (open(2)). Answers its descriptor, the process's lowest free number.
+    /// Refused, in this order: ESRCH, EMFILE, ENFILE, ENOMEM.
     pub fn open(&mut self, pid: Pid) -> Result<Fd, Errno>
         ensures done { IfOk result (λ fd. Does self.old pid Step.Open (Reply.Fd fd) self.new) }
         ensures refused { IfErr result (λ e. Refuses self.old pid Step.Open e self.new) }
@@ -40,8 +41,8 @@ impl Engine {
         Ok(fd)
     }
 
-    /// Duplicates a descriptor to the process's lowest free number (dup(2)). Refused, in this
-    /// order: ESRCH, EBADF, EMFILE, ENOMEM.
+    /// Duplicates a descriptor (dup(2)). Answers the new one, the process's lowest free number.
+    /// Refused, in this order: ESRCH, EBADF, EMFILE, ENOMEM.
     pub fn dup(&mut self, pid: Pid, from: Fd) -> Result<Fd, Errno>
         ensures done { IfOk result (λ fd.
             Does self.old pid (Step.Dup from) (Reply.Fd fd) self.new) }
@@ -58,9 +59,9 @@ impl Engine {
         Ok(fd)
     }
 
-    /// Sets another descriptor to the file of this one, and closes it first if it is open
-    /// (dup2(2)). A descriptor in place of itself asks for no memory. Refused, in this order:
-    /// ESRCH, EBADF, ENOMEM.
+    /// Makes the descriptor `to` refer to the file of `from` (dup2(2)); if it is open, it is closed
+    /// first. Where both are one, nothing changes, and no memory is needed. Answers `to`. Refused,
+    /// in this order: ESRCH, EBADF, ENOMEM.
     pub fn dup2(&mut self, pid: Pid, from: Fd, to: Fd) -> Result<Fd, Errno>
         ensures done { IfOk result (λ fd.
             Does self.old pid (Step.Dup2 from to) (Reply.Fd fd) self.new) }

@@ -1,4 +1,4 @@
-//! Which files were freed, and whose readiness may have changed.
+//! The lists of freed files, and of sockets whose readiness may have changed.
 ghost use Rattle.std.specs.Prelude.{◌≡◌, true, OnErr, OnOk};
 ghost use Rattle.af_base.specs.Told.{TellsChanged, TellsReleased};
 
@@ -7,9 +7,9 @@ use af_base::ids::{FileRef, Ino};
 use std::alloc::AllocError;
 
 impl Engine {
-    /// Tells from now on which files are freed, by `released_files`. Both lists are empty then.
-    /// From now on an event that makes a file needs room for its number in the list too, and no
-    /// other call does. On an error nothing has changed.
+    /// Begins to list freed files (`released_files`), and empties both lists. Later an event that
+    /// makes a file also needs memory for its number in the list; no other call does. On an error
+    /// nothing has changed.
     pub fn tell_released(&mut self) -> Result<(), AllocError>
         ensures ok { OnOk result (self.new ≡ record self.old {
           since = record {
@@ -24,9 +24,9 @@ impl Engine {
         self.store.tell_released()
     }
 
-    /// Tells from now on whose readiness may have changed, by `changed_sockets`. Both lists are
-    /// empty then. From now on an event that makes a file needs room for it in the list too, and no
-    /// other call does. On an error nothing has changed.
+    /// Begins to list sockets whose readiness may have changed (`changed_sockets`), and empties
+    /// both lists. Later an event that makes a file also needs memory for it in the list; no other
+    /// call does. On an error nothing has changed.
     pub fn tell_changed(&mut self) -> Result<(), AllocError>
         ensures ok { OnOk result (self.new ≡ record self.old {
           since = record {

@@ -1,4 +1,4 @@
-//! The views of an engine. None takes memory, but for the plain lists.
+//! The views of an engine. None takes memory, but for `listing`.
 ghost use Rattle.std.specs.Prelude.{◌≡◌, ◌<◌, ◌≤◌, ℕ, None, Some, false, IfErr, IfOk, IfSome};
 ghost use Rattle.std.specs.Prelude.{IfNone, OnOk, length, option_copied, slice_get};
 ghost use Rattle.std.specs.FinMap as map;
@@ -23,7 +23,7 @@ use std::alloc::AllocError;
 pub enum FileInfo {
     /// A plain file, without any content.
     Plain,
-    /// A socket: its type, whom it can talk to, how many messages it has to receive, and how many
+    /// A socket: its type, its connection state, how many messages it has to receive, and how many
     /// embryos wait to be accepted.
     Socket {
         kind: SockType,
@@ -34,23 +34,23 @@ pub enum FileInfo {
 }
 
 impl Engine {
-    /// Returns how many places hold the file: its reference count, which is 0 after the last
-    /// close(2). 0 for an unknown file.
+    /// Returns the file's reference count: how many descriptors, messages and backlogs refer to it,
+    /// repeats included. 0 for an unknown file.
     pub fn refs(&self, ino: Ino) -> u64
         ensures { result ≡ refs self.now.world ino }
     {
         self.store.holdings().refs(ino)
     }
 
-    /// Returns how often the file is in flight (unix(7), SCM_RIGHTS): how many places in queues
-    /// hold it, repeats included. 0 for an unknown file.
+    /// Returns how often the file is in flight (unix(7), SCM_RIGHTS): how often messages in queues
+    /// have it, repeats included. 0 for an unknown file.
     pub fn inflight(&self, ino: Ino) -> u64
         ensures { result ≡ inflight self.now.world ino }
     {
         self.store.holdings().inflight(ino)
     }
 
-    /// Returns how many places hold the file of this reference. No search.
+    /// Returns the reference count of the file of this reference. No search.
     pub fn refs_at(&self, file: &FileRef) -> u64
         ensures { result ≡ refs self.now.world file.now }
     {
@@ -98,8 +98,8 @@ impl Engine {
         Some(next.ino())
     }
 
-    /// Returns the same as a reference, with its position in the order. A walk passes the last
-    /// answer, and needs no search; the position is a hint.
+    /// Returns the least live file above that number as a reference, with its position in the
+    /// order. A walk passes its last answer, and needs no search. The position is a hint.
     pub fn next_file(&self, ino: Ino, order_hint: usize) -> Option<(FileRef, usize)>
         ensures above { IfSome result (λ n. ino < n.0) }
         ensures live { IfSome result (λ n. IsLive self.now.world n.0) }
@@ -119,8 +119,8 @@ impl Engine {
         Some(file.ino())
     }
 
-    /// Returns the same as a reference: for `refs_at`, `inflight_at`, `file_at`, `name_at` and
-    /// `ready_at`, which then need no search.
+    /// Returns the file that a descriptor of a process refers to, as a reference: by it `refs_at`,
+    /// `inflight_at`, `file_at`, `name_at` and `ready_at` need no search.
     pub fn file_on(&self, pid: Pid, fd: Fd) -> Option<FileRef>
         ensures { result ≡ table_at self.now.world pid fd }
     {
