@@ -41,7 +41,7 @@ enum Last {
     Items,
 }
 
-/// Returns why a word is not of the wanted kind, if so.
+/// Returns why a word is not of the wanted kind; `None` if it is.
 fn why_word(wanted: Wanted, word: &[u8]) -> Option<Misfit>
     ensures exact { is_some result ≡ not (fits_word wanted word.now) }
     ensures within { IfSome result (λ m. m.left ≤ length word.now) }
@@ -78,7 +78,7 @@ fn why_privilege(bytes: &[u8]) -> Option<Misfit>
     }
 }
 
-/// Returns why the last words of a line are not of the wanted kind, if so.
+/// Returns why the last words of a line are not of the wanted kind; `None` if they are.
 fn why_last(last: Last, bytes: &[u8]) -> Option<Misfit>
     ensures exact { is_some result ≡ not (fits_last last (words_of bytes.now)) }
     ensures within { IfSome result (λ m. m.left ≤ length bytes.now) }
@@ -98,7 +98,7 @@ fn missing_word() -> Misfit
     Misfit::at(Reason::WordMissing, b"")
 }
 
-/// Returns why words are not of a form, if so.
+/// Returns why words are not of a form; `None` if they are.
 fn why_words(wanted: &[Wanted], last: Last, bytes: &[u8]) -> Option<Misfit>
     ensures exact { is_some result ≡ not (fits_words wanted.now last (words_of bytes.now)) }
     ensures within { IfSome result (λ m. m.left ≤ length bytes.now) }
@@ -118,7 +118,7 @@ fn why_words(wanted: &[Wanted], last: Last, bytes: &[u8]) -> Option<Misfit>
     why_last(last, rest)
 }
 
-/// Returns why the words behind a verb are not of its form, if so.
+/// Returns why the words behind a verb are not of its form; `None` if they are.
 fn why_step(verb: Verb, bytes: &[u8]) -> Option<Misfit>
     ensures exact { is_some result ≡ is_none (read_form (step_row verb).1 (words_of bytes.now)) }
     ensures within { IfSome result (λ m. m.left ≤ length bytes.now) }
@@ -137,7 +137,7 @@ fn why_step(verb: Verb, bytes: &[u8]) -> Option<Misfit>
     }
 }
 
-/// Returns why the words behind a process's number are none of its events, if so.
+/// Returns why the words behind a process's number are none of its events; `None` if they are one.
 #[tactic(auto, using(crate::proofs::VersionsFit::step_in_none, crate::proofs::VersionsFit::step_in_other))]
 fn why_process(version: Version, bytes: &[u8]) -> Option<Misfit>
     ensures exact { is_some result ≡ is_none (step_in version (words_of bytes.now)) }
@@ -156,7 +156,7 @@ fn why_process(version: Version, bytes: &[u8]) -> Option<Misfit>
     Some(Misfit::at(Reason::NeedsVersion2, word).before(rest))
 }
 
-/// Returns why the words behind a keyword are not of its form, if so.
+/// Returns why the words behind a keyword are not of its form; `None` if they are.
 fn why_keyword(keyword: Keyword, bytes: &[u8]) -> Option<Misfit>
     ensures exact { is_some result ≡ is_none (read_form (line_row keyword).1 (words_of bytes.now)) }
     ensures within { IfSome result (λ m. m.left ≤ length bytes.now) }
@@ -188,7 +188,7 @@ fn first_misfit(word: &[u8]) -> Misfit
     }
 }
 
-/// Returns why a line that begins with this word is of no form, if so.
+/// Returns why a line that begins with this word is of no form; `None` if it has one.
 #[tactic(auto, using(crate::proofs::VersionsFit::form_in_process, crate::proofs::VersionsFit::form_in_other))]
 fn why_form(version: Version, word: &[u8], rest: &[u8]) -> Option<Misfit>
     requires { length word.now + length rest.now < 2 ^ 63 }
@@ -208,7 +208,7 @@ fn why_form(version: Version, word: &[u8], rest: &[u8]) -> Option<Misfit>
     Some(Misfit::at(Reason::VersionTooLate, word).before(rest))
 }
 
-/// Returns why the words of a line do not fit, if so.
+/// Returns why the words of a line do not fit; `None` if they do.
 #[tactic(auto, using(crate::proofs::LinesFit::silent, crate::proofs::LinesFit::comment, crate::proofs::LinesFit::not_printable, crate::proofs::LinesFit::by_form))]
 fn why_line(version: Version, bytes: &[u8]) -> Option<Misfit>
     requires { length bytes.now ≤ MAX_LINE }
@@ -227,7 +227,7 @@ fn why_line(version: Version, bytes: &[u8]) -> Option<Misfit>
     why_form(version, word, rest)
 }
 
-/// Says why a line cannot be read that comes now in such a script, and at which column.
+/// Returns why the next line of a script of this version cannot be read, and at which column.
 ///
 /// `bytes` is the line without its end. A line that can be read has no reason. A line of too many
 /// bytes comes first, then a byte that is not printable, then the first word that does not fit, and

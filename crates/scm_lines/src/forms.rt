@@ -1,7 +1,7 @@
 //! The forms of a line, by its keyword. `specs/Forms.antt` has them as a table, row by row.
 //!
-//! A form that has words is a function that reads its row; where a row does not fit, [`step`] and
-//! [`line`] say so in one place.
+//! A form that has words is a function that reads its row, and answers nothing where the words do
+//! not fit. [`step`] and [`line`] make a fault of that.
 ghost use Rattle.std.specs.Prelude.{◌≡◌, IfErr, IfOk, None, Some};
 ghost use Rattle.af_base.specs.declared.events.Event.TheVariants as event;
 ghost use Rattle.af_base.specs.declared.events.Step.TheVariants as step;
@@ -205,7 +205,7 @@ pub fn limit(rest: &[u8]) -> Option<u32>
 
 // ---- a step as a value
 
-/// Reads the step `bind`, with a name of its own.
+/// Reads the step `bind`, and copies its name.
 fn bind_step(alloc: Global, rest: &[u8]) -> Result<Step, LineFault>
     ensures { Reads (read_form (step_row verb.Bind).1 (words_of rest.now)) result }
 {
@@ -216,7 +216,7 @@ fn bind_step(alloc: Global, rest: &[u8]) -> Result<Step, LineFault>
     Ok(Step::Bind { on, name })
 }
 
-/// Reads the step `connect`, with a name of its own.
+/// Reads the step `connect`, and copies its name.
 fn connect_step(alloc: Global, rest: &[u8]) -> Result<Step, LineFault>
     ensures { Reads (read_form (step_row verb.Connect).1 (words_of rest.now)) result }
 {
@@ -295,7 +295,7 @@ fn process(alloc: Global, bytes: &[u8]) -> Result<Step, LineFault>
     step(alloc, verb, rest)
 }
 
-// ---- lines that no process's number begins
+// ---- lines that begin with a keyword
 
 /// Reads `spawn N N` and `spawn N N priv`.
 pub fn spawn(rest: &[u8]) -> Option<(Uid, u32, bool)>
@@ -361,7 +361,7 @@ fn line(keyword: Keyword, rest: &[u8]) -> Result<Line, LineFault>
 pub(crate) fn form(alloc: Global, word: &[u8], rest: &[u8]) -> Result<Line, LineFault>
     ensures { Reads (form_of word.now (words_of rest.now)) result }
 {
-    // Most lines are a process's, so that is asked first.
+    // Most lines begin with a process's number, so that is tried first.
     if let Some(pid) = number(word) {
         return Ok(Line::Event(Event::Proc(Pid(pid), process(alloc, rest)?)));
     }

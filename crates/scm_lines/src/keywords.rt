@@ -5,7 +5,7 @@ ghost use Rattle.scm_lines.specs.Forms.{keywords, line_row, named, step_row, ver
 
 use af_base::events::SockType;
 
-/// The first word of a line without a process.
+/// The first word of a line that does not begin with a process's number.
 #[derive(Clone, Copy, Debug, PartialEq, Eq)]
 pub enum Keyword {
     /// `spawn`
@@ -80,8 +80,8 @@ pub fn keyword_named(word: &[u8]) -> Option<Keyword>
     })
 }
 
-/// Returns the verb of the word after a process's number. The most frequent ones of scripts come
-/// first.
+/// Returns the verb that the word after a process's number names, if it is one. The verbs that
+/// scripts use most are tried first.
 #[tactic(auto, using(crate::proofs::KeywordLemmas::no_five, crate::proofs::KeywordLemmas::no_six, crate::proofs::KeywordLemmas::no_seven, crate::proofs::KeywordLemmas::no_eight))]
 pub fn verb_named(word: &[u8]) -> Option<Verb>
     ensures { result ≡ named step_row verbs word.now }

@@ -2,9 +2,10 @@
 //!
 //! A caller wants [`read_in`], [`Version`] and [`Line`]. The line is cut into words (`words`), the
 //! first word says which form it has (`keywords`), and each form reads the words that are left
-//! (`forms`, with `numbers`, `payload` and `attached`). [`why`] says of another line what does not
-//! fit, and where (`explain`, with `misfit`). `specs/Says.antt` has the table of forms; [`laws`]
-//! says that what is read is the table.
+//! (`forms`, with `numbers`, `payload` and `attached`). `version` says which lines a script may
+//! have. [`why`] says of another line what does not fit, and where (`explain`, with `misfit`).
+//! `specs/Forms.antt` has the table of forms, and `specs/Says.antt` the lines that it allows;
+//! [`laws`] says that exactly these are read.
 #![tactic(auto)]
 
 mod attached;

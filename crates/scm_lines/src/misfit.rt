@@ -16,12 +16,12 @@ use crate::payload::{MAX_PAYLOAD, first_byte};
 use crate::reason::Reason;
 use crate::words::{first_word, is_printable};
 
-/// A reason in some bytes, and how many of them are there and behind it.
+/// The first place in a text that does not fit, and why.
 #[derive(Clone, Copy)]
 pub struct Misfit {
     /// The reason.
     pub reason: Reason,
-    /// How many bytes there are from the first that does not fit.
+    /// How many bytes are left from the first that does not fit, to the end of the text.
     pub left: usize,
 }
 
@@ -37,7 +37,7 @@ impl Misfit {
         }
     }
 
-    /// Returns the same, with more bytes behind those that were looked at.
+    /// Returns the misfit as one of a longer text: this many bytes stand behind those looked at.
     pub fn before(self, rest: &[u8]) -> Misfit
         requires { self.left + length rest.now < 2 ^ 64 }
         ensures reason { result.reason ≡ self.reason }
@@ -100,7 +100,7 @@ pub fn number_misfit(word: &[u8]) -> Misfit
     Misfit::at(digits_reason(word), word)
 }
 
-/// Returns why a word is not read as a number, if so.
+/// Returns why a word is not read as a number; `None` if it is.
 pub fn why_number(word: &[u8]) -> Option<Misfit>
     ensures exact { is_some result ≡ is_none (number_of word.now) }
     ensures reason { IfSome result (λ m. m.reason ≡ number_reason word.now) }
@@ -112,7 +112,7 @@ pub fn why_number(word: &[u8]) -> Option<Misfit>
     }
 }
 
-/// Returns why a word is no type of sockets, if so.
+/// Returns why a word is no type of sockets; `None` if it is.
 pub fn why_type(word: &[u8]) -> Option<Misfit>
     ensures exact { is_some result ≡ is_none (type_of word.now) }
     ensures within { IfSome result (λ m. m.left ≤ length word.now) }
@@ -123,7 +123,7 @@ pub fn why_type(word: &[u8]) -> Option<Misfit>
     }
 }
 
-/// Returns why the digits behind a `*` are no count of letters, if so.
+/// Returns why the digits behind a `*` are no count of letters; `None` if they are.
 fn why_letters(digits: &[u8]) -> Option<Misfit>
     ensures exact { is_some result ≡ is_none (payload_of (42 ∷ digits.now)) }
     ensures within { IfSome result (λ m. m.left ≤ length digits.now) }
@@ -147,7 +147,7 @@ fn byte_misfit(word: &[u8]) -> Misfit
     }
 }
 
-/// Returns why characters spell no bytes of a message, if so.
+/// Returns why characters spell no bytes of a message; `None` if they do.
 #[tactic(auto, using(crate::proofs::FittingLemmas::counted_byte))]
 fn why_spelled(word: &[u8]) -> Option<Misfit>
     ensures exact { is_some result ≡ is_none (at_most 65537 (unescape word.now)) }
@@ -168,7 +168,7 @@ fn why_spelled(word: &[u8]) -> Option<Misfit>
     None
 }
 
-/// Returns why a word has no bytes of a message, if so.
+/// Returns why a word has no bytes of a message; `None` if it has.
 pub fn why_payload(word: &[u8]) -> Option<Misfit>
     ensures exact { is_some result ≡ is_none (payload_of word.now) }
     ensures within { IfSome result (λ m. m.left ≤ length word.now) }
@@ -198,7 +198,7 @@ fn item_misfit(word: &[u8]) -> Misfit
     }
 }
 
-/// Returns why the words that are left are no items, if so.
+/// Returns why the words that are left are no items; `None` if they are.
 #[tactic(auto, using(crate::proofs::FittingLemmas::counted_item, crate::proofs::FittingLemmas::counted_over))]
 pub fn why_attached(bytes: &[u8]) -> Option<Misfit>
     ensures exact { is_some result ≡ is_none (attached_of (words_of bytes.now)) }

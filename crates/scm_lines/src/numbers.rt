@@ -45,8 +45,8 @@ pub fn number_in(bytes: &[u8]) -> Option<(u32, &[u8])>
     any_number_in(bytes)
 }
 
-/// Reads the same of any bytes. It is a function of its own, so that a number of one digit costs
-/// little.
+/// Reads the first word as a number of any length, and returns the bytes after it. It is a function
+/// of its own, so that a number of one digit costs little.
 #[inline(never)]
 fn any_number_in(bytes: &[u8]) -> Option<(u32, &[u8])>
     ensures { option_map (λ found. (found.0, words_of found.1.now)) result

@@ -13,7 +13,7 @@ use std::alloc::Global;
 /// message that is too long.
 pub const MAX_PAYLOAD: usize = 65_537;
 
-/// Returns whether it is a letter, a digit, `_`, `-` or `.`, which means itself.
+/// Returns whether the character spells itself: a letter, a digit, `_`, `-` or `.`.
 fn is_plain(b: u8) -> bool
     ensures { result ≡ is_plain b }
 {
@@ -70,7 +70,7 @@ fn unescape_word(alloc: Global, word: &[u8]) -> Result<Bytes, LineFault>
     Ok(Items::of_small(bytes))
 }
 
-/// Makes as many letters x as the digits behind a `*` say.
+/// Makes as many letters `x` as the digits behind a `*` say.
 fn letters(alloc: Global, digits: &[u8]) -> Result<Bytes, LineFault>
     ensures { Reads (payload_of (42 ∷ digits.now)) result }
 {
@@ -81,7 +81,7 @@ fn letters(alloc: Global, digits: &[u8]) -> Result<Bytes, LineFault>
     Ok(Items::of(vec![in alloc; b'x'; count]?))
 }
 
-/// Reads the bytes of a word: `*` and how many letters x, or the bytes by their characters.
+/// Reads the bytes of a word: `*` and how many letters `x`, or the characters that spell them.
 #[inline(always)]
 pub fn payload(alloc: Global, word: &[u8]) -> Result<Bytes, LineFault>
     ensures { Reads (payload_of word.now) result }

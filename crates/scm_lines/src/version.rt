@@ -26,16 +26,16 @@ use std::alloc::Global;
 /// The version of a script, by its lines so far.
 #[derive(Clone, Copy, Debug, PartialEq, Eq)]
 pub enum Version {
-    /// Nothing: all were silent.
+    /// All lines were silent, so the script may be of either version.
     Unknown,
-    /// It is of version 1.
+    /// The script is of version 1.
     First,
-    /// It is of version 2.
+    /// The script is of version 2.
     Second,
 }
 
 impl Version {
-    /// Returns whether the script may have this line next.
+    /// Returns whether a script of this version may have this line next.
     fn has(self, line: &Line) -> bool
         ensures { result ≡ has_line self line.now }
     {
@@ -75,7 +75,7 @@ fn is_later(step: &Step) -> bool
     matches!(step, Step::Peek { .. } | Step::Limit(_))
 }
 
-/// Returns whether steps of this verb can come now.
+/// Returns whether a script of this version may have steps of this verb.
 pub fn has_verb(version: Version, verb: Verb) -> bool
     ensures { result ≡ has_verb version verb }
 {
@@ -117,8 +117,8 @@ pub fn keyword_in(bytes: &[u8]) -> Option<(Keyword, &[u8])>
     Some((keyword_named(word)?, rest))
 }
 
-/// Reads the next line of such a script. Besides a line that [`line_of`] cannot read, one that the
-/// script may not have now is [`LineFault::Unreadable`]. Takes memory as [`line_of`] does.
+/// Reads the next line of a script of this version. [`LineFault::Unreadable`]: [`line_of`] cannot
+/// read it, or the script may not have it there. [`LineFault::Memory`]: as of [`line_of`].
 pub fn read_in(alloc: Global, version: Version, bytes: &[u8]) -> Result<Line, LineFault>
     ensures { Reads (read_in version bytes.now) result }
 {

@@ -55,7 +55,7 @@ fn cut_word(bytes: &[u8]) -> (&[u8], &[u8])
     bytes.split_at(end)
 }
 
-/// Returns the first word, and the bytes after it.
+/// Returns the first word, if there is one, and the bytes after it.
 pub fn first_word(bytes: &[u8]) -> Option<(&[u8], &[u8])>
     ensures some { IfSome result (λ found.
         words_of bytes.now ≡ found.0.now ∷ words_of found.1.now) }
@@ -110,7 +110,7 @@ pub fn is_printable(b: u8) -> bool
 pub fn all_printable(bytes: &[u8]) -> bool
     ensures { result ≡ all_printable bytes.now }
 {
-    // Nearly all names are, and a loop that has no early end takes many bytes at once.
+    // Nearly all names are printable, and a loop without an early end tests many bytes at once.
     let mut all = true;
     for b in bytes {
         all &= is_printable(*b);

@@ -31,9 +31,9 @@ pub fn write_out<W: Write>(text: &mut Vec<u8>, writer: &mut Watched<W>) -> Resul
     Ok(())
 }
 
-/// Makes room for the text of any reply; where there is too little, what is gathered is written.
+/// Makes room for the text of any reply. Where there is too little, it writes what is gathered.
 ///
-/// Room is taken once in a run: it grows only for a long report.
+/// A run reserves this room once. Only a long report makes it grow.
 pub fn make_room<W: Write>(text: &mut Vec<u8>, writer: &mut Watched<W>) -> Result<(), RunFault>
     requires { writer.old.has_failed ≡ false }
     ensures ok { OnOk result (WritesFront text.old.items text.new.items
@@ -51,8 +51,8 @@ pub fn make_room<W: Write>(text: &mut Vec<u8>, writer: &mut Watched<W>) -> Resul
     Ok(())
 }
 
-/// Writes what is gathered before a fault is answered: where that fails, the answer is the
-/// writer's fault. After a fault of the writer nothing more is written.
+/// Writes what is gathered before a fault is answered. Returns that fault, or `Write` where this
+/// fails. After a fault of the writer it writes nothing.
 pub fn settle<W: Write>(text: &mut Vec<u8>, fault: RunFault, writer: &mut Watched<W>) -> RunFault
     requires { writer.old.has_failed ≡ is_write_fault {A = ℕ} (Err fault) }
     ensures settles { Settles fault result text.old.items (W.contents writer.old.inner)

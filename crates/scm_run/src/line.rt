@@ -33,7 +33,7 @@ fn report_text(alloc: Global, engine: &Engine, report: Report) -> Result<Vec<u8>
     }
 }
 
-/// Appends the text of a report, whole, or the line `ENOMEM` where memory for it was refused.
+/// Appends the whole text of a report, or the line `ENOMEM` where memory for it was refused.
 fn answer_report(alloc: Global, engine: &Engine, report: Report, text: &mut Vec<u8>)
     requires { vec_len text.old + MAX_REPLY_LINE ≤ vec_capacity text.old }
     ensures { (line : List ℕ) × (text.new.items ≡ text.old.items ++ line)
@@ -71,8 +71,8 @@ pub fn answer(alloc: Global, engine: &mut Engine, says: Line, text: &mut Vec<u8>
     }
 }
 
-/// Reads a line of any form, does what it says, and appends its text. It is apart, so that a
-/// process's step clears no room for what other lines say.
+/// Reads a line of any form, does what it says, and appends its text. It is a function of its own,
+/// so that a process's step zeroes no local of other lines.
 #[inline(never)]
 fn do_any(
     alloc: Global,

@@ -1,7 +1,7 @@
 //! The lines of the answers to typed calls.
 //!
-//! Each is the line of the reply that tells the answer, and of the error in its place. No reply is
-//! made of it first: `text` reads a reply by what it is, and here that is known.
+//! Each is the line of the reply that has the answer, or of the error in its place. The reply's
+//! variant is known here, so the compiler keeps only that variant's part of `push_reply`.
 ghost use Rattle.std.specs.Prelude.{◌≡◌, ◌≤◌, ◌+◌, ◌++◌, IfOk, vec_capacity, vec_len};
 ghost use Rattle.af_base.specs.declared.events.Reply.TheVariants as reply;
 ghost use Rattle.af_steps.specs.Outcome.{finished_reply, got_reply, progress_reply};
@@ -14,7 +14,7 @@ use af_base::events::Reply;
 use af_base::ids::{Fd, Pid};
 use af_steps::{Finished, Progress, Received};
 
-/// Appends the line of a refusal. It is apart, since most steps are done.
+/// Appends the line of a refusal. It is a function of its own, since few steps are refused.
 #[inline(never)]
 fn push_refusal(text: &mut Vec<u8>, error: Errno)
     requires { vec_len text.old + MAX_REPLY_LINE ≤ vec_capacity text.old }
@@ -23,7 +23,7 @@ fn push_refusal(text: &mut Vec<u8>, error: Errno)
     push_reply(text, &Reply::Refused(error));
 }
 
-/// Appends the line of a call that answers a number.
+/// Appends the line of a call that answers a descriptor.
 #[inline(always)]
 pub fn push_fd(text: &mut Vec<u8>, outcome: Result<Fd, Errno>)
     requires { vec_len text.old + MAX_REPLY_LINE ≤ vec_capacity text.old }
@@ -35,7 +35,7 @@ pub fn push_fd(text: &mut Vec<u8>, outcome: Result<Fd, Errno>)
     }
 }
 
-/// Appends the line of a call that answers two numbers.
+/// Appends the line of a call that answers two descriptors.
 #[inline(always)]
 pub fn push_fds(text: &mut Vec<u8>, outcome: Result<(Fd, Fd), Errno>)
     requires { vec_len text.old + MAX_REPLY_LINE ≤ vec_capacity text.old }

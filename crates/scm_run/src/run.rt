@@ -67,7 +67,7 @@ pub fn without_return(bytes: &[u8]) -> &[u8]
     }
 }
 
-/// Appends bytes to a line that was begun; none is begun where it is empty.
+/// Appends bytes to a line of which some bytes were kept. Leaves an empty one empty.
 fn append_to_pending(line: &mut Vec<u8>, bytes: &[u8]) -> Result<(), AllocError>
     ensures begun { OnOk result
         (0 < length line.old.items → line.new.items ≡ line.old.items ++ bytes.now) }
@@ -111,7 +111,7 @@ impl ScriptRun {
         })
     }
 
-    /// Does the line that the pending bytes begin and these end: its line feed comes next.
+    /// Does the line that the pending bytes begin and these bytes end. Its line feed comes next.
     fn end_line<W: Write>(
         &mut self,
         alloc: Global,
@@ -279,9 +279,10 @@ impl ScriptRun {
         }
     }
 
-    /// Reads the script to its end, and does and writes its lines. Nothing was read of it before.
+    /// Reads the script to its end, does its lines, and writes their text. Nothing was read of it
+    /// before.
     ///
-    /// The run is lent, so that what stops it need not give up a whole engine.
+    /// The run is lent, so that no early end here drops an engine.
     fn run_to_end<R: Read, W: Write>(
         &mut self,
         alloc: Global,
@@ -315,9 +316,9 @@ impl ScriptRun {
     }
 }
 
-/// Runs a script from the fresh machine, in the version that its first line that is not silent
-/// gives: does each line as soon as its end was read, writes the line of its reply, and returns how
-/// many events were done.
+/// Runs a script from the fresh machine: does each line as soon as its end was read, writes the
+/// line of its reply or its report, and returns how many events were done. The first line that is
+/// not silent gives the script's version.
 ///
 /// Neither stream may have failed before. Lines are cut as by `str::lines`: a last line needs no
 /// line feed. Memory does not grow with the length of the script: a line that is too long is

@@ -1,5 +1,4 @@
-//! The lines of events, each read, done and answered on a path of its own: no event and no reply is
-//! made on the way.
+//! The lines of events, each read, done by its typed call and answered: no `Event` is made of them.
 ghost use Rattle.std.specs.Prelude.{◌≡◌, ◌≤◌, ◌+◌, IfOk, false, vec_capacity, vec_len};
 ghost use Rattle.scm_lines.specs.declared.keywords.Verb.TheVariants as verb;
 ghost use Rattle.scm_run.specs.Line.{EventDone, StepDone};
@@ -71,7 +70,7 @@ pub fn do_step(
     Ok(())
 }
 
-/// Does `P send N BYTES ITEMS..`. It is apart, since its words take memory.
+/// Does `P send N BYTES ITEMS..`. Reading its words may take memory, unlike those of `call!`.
 #[inline(always)]
 fn send(
     alloc: Global,
@@ -89,7 +88,7 @@ fn send(
     Ok(())
 }
 
-// A receive and a peek are apart, so that no other step clears room for what they give.
+// A receive and a peek are functions of their own, so that no other step zeroes their answers.
 
 /// Does `P recv N N N`.
 #[inline(always)]
@@ -117,8 +116,8 @@ fn peek(engine: &mut Engine, pid: Pid, rest: &[u8], text: &mut Vec<u8>) -> Resul
     Ok(())
 }
 
-/// Does the event of a line, if it is one that is no step of a process, and appends the line of its
-/// reply. Returns whether it is one.
+/// Does the event of a line, if the line begins with the keyword of an event, and appends the line
+/// of its reply. Returns whether it does.
 #[inline(always)]
 pub fn do_event(engine: &mut Engine, bytes: &[u8], text: &mut Vec<u8>) -> Result<bool, LineFault>
     requires { vec_len text.old + MAX_REPLY_LINE ≤ vec_capacity text.old }

@@ -20,11 +20,11 @@ pub const MAX_REPLY_LINE: usize = 3 * MAX_BYTES + 21 * SCM_MAX_FD + 64;
 /// How many bytes of a message are appended at once.
 const BLOCK: usize = 256;
 
-/// How many bytes are many enough to look at all of them before any is appended.
+/// From how many bytes on it pays to look at all of them before any is appended.
 const MANY: usize = 8;
 
-// Appending to a text fails only without room for as many bytes as it may take, and then some
-// beginning may be in the text; room is never lost.
+// To append fails only where the text has less room than the bytes may take. Then a beginning of
+// them may be in the text. Room is never lost.
 
 /// Appends a word.
 #[inline(always)]
@@ -56,7 +56,7 @@ fn push_escaped(text: &mut Vec<u8>, byte: u8) -> Result<(), AllocError>
 
 /// Returns whether each byte is printed as itself.
 ///
-/// It looks at all of them, whatever the first ones are: so the bytes are looked at many at a time.
+/// The loop has no early end, so that many bytes are tested at once.
 fn all_plain(bytes: &[u8]) -> bool
     ensures { result ≡ all_plain bytes.now }
 {
@@ -128,7 +128,8 @@ fn push_named(text: &mut Vec<u8>, word: &str, number: u64) -> Result<(), AllocEr
     push_digits(text, number)
 }
 
-/// Appends the digits of a number. It is apart, so that a number of one digit costs little.
+/// Appends the digits of a number. It is a function of its own, so that a number of one digit costs
+/// little.
 #[inline(never)]
 fn push_digits(text: &mut Vec<u8>, number: u64) -> Result<(), AllocError>
     ensures bytes { OnOk result (text.new.items ≡ text.old.items ++ decimal number) }
@@ -153,7 +154,7 @@ fn push_numbers(text: &mut Vec<u8>, fds: &[Fd]) -> Result<(), AllocError>
     Ok(())
 }
 
-/// Appends ` fds` and the numbers, where there is one.
+/// Appends ` fds` and the descriptors; nothing where there is none.
 fn push_fds(text: &mut Vec<u8>, fds: &[Fd]) -> Result<(), AllocError>
     ensures bytes { OnOk result (text.new.items ≡ text.old.items ++ fds_text fds.now) }
     ensures most { OnOk result (vec_len text.new ≤ vec_len text.old + (4 + 21 * length fds.now)) }
@@ -181,7 +182,7 @@ fn push_flag(text: &mut Vec<u8>, flag: bool, word: &str) -> Result<(), AllocErro
     push_word(text, word)
 }
 
-/// Appends what a receive took.
+/// Appends what a receive took, without the end of its line.
 #[inline(never)]
 fn push_got(
     text: &mut Vec<u8>,
