@@ -29,7 +29,7 @@ pub enum Errno {
     ENOBUFS,
     /// The socket was never connected.
     ENOTCONN,
-    /// The peer is gone.
+    /// The peer was freed.
     EPIPE,
     /// The socket is connected already.
     EISCONN,

@@ -24,7 +24,7 @@ pub enum State {
     Listening(u32),
     /// Connected to a live peer.
     Connected(Ino),
-    /// Was connected; the peer is gone.
+    /// Was connected; the peer was freed.
     HungUp,
 }
 
@@ -99,9 +99,9 @@ pub enum Event {
     },
     /// A process makes a step.
     Proc(Pid, Step),
-    /// The collector begins a pass, which slices go on with.
+    /// The collector begins a pass, which slices continue.
     Begin,
-    /// Continues the running pass, by at most this many units.
+    /// The collector continues the running pass, by at most this many units.
     Slice(u32),
     /// The collector makes a whole pass.
     Pass,
@@ -116,7 +116,7 @@ pub enum Reply {
     Fd(Fd),
     /// Two descriptors were opened.
     Fds(Fd, Fd),
-    /// It was done.
+    /// The event was done, and has no other answer.
     Ok,
     /// This many bytes were sent.
     Sent(u32),
@@ -129,7 +129,7 @@ pub enum Reply {
         /// Descriptors of the message were not installed (MSG_CTRUNC).
         ctrunc: bool,
     },
-    /// Nothing is left to receive, and the peer is gone.
+    /// Nothing is left to receive, and the peer was freed: recvmsg(2) answers 0.
     End,
     /// A pass of the collector began: its number.
     Started(u64),
@@ -140,7 +140,7 @@ pub enum Reply {
         pass: u64,
         reclaimed: u64,
     },
-    /// It was refused, and nothing changed.
+    /// The event was refused with this error, and nothing changed.
     Refused(Errno),
 }
 

@@ -1,4 +1,4 @@
-//! Numbers with a type of their own. A clause sees each as its number.
+//! Numbers with types of their own. A clause sees each as its number.
 ghost use Rattle.std.specs.Prelude.{◌≡◌, ◌≤◌, IsTrue};
 
 use crate::limits::MAX_INO;
@@ -95,7 +95,7 @@ impl FileRef {
     }
 }
 
-/// A process.
+/// The number of a process.
 #[derive(Clone, Copy, Debug, Default, PartialEq, Eq, PartialOrd, Ord, Hash)]
 pub struct Pid(pub u32);
 
@@ -121,7 +121,7 @@ impl fmt::Display for Pid {
     }
 }
 
-/// A user.
+/// The number of a user.
 #[derive(Clone, Copy, Debug, Default, PartialEq, Eq, PartialOrd, Ord, Hash)]
 pub struct Uid(pub u32);
 

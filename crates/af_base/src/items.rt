@@ -1,4 +1,4 @@
-//! A list that a clause sees as its list.
+//! A list of which a few items lie in the value. A clause sees the list of its items.
 ghost use Rattle.std.specs.Prelude.{◌≡◌, ◌↔◌, ◌+◌, ◌≤◌, ◌∷◌, ◌++◌, [], drop, length, take};
 ghost use Rattle.std.specs.Prelude.{IfOk, IsTrue, OnErr, OnOk};
 
@@ -21,8 +21,8 @@ pub struct Items<T, const N: usize> {
     items: SmallVec<T, N>,
 }
 
-/// It is written out, and not derived, so that what owns a list has one call where it drops it, and
-/// not one way for each place where items may lie.
+/// It is written out, and not derived: so an owner's proof has one call where it drops a list, and
+/// no case for each place where items may lie.
 impl<T: Drop, const N: usize> Drop for Items<T, N> {
     #[inline(always)]
     fn drop(self) {

@@ -23,7 +23,7 @@ pub struct ListedNumber {
 pub struct ListedTable {
     /// The process.
     pub pid: Pid,
-    /// Its open numbers, rising.
+    /// Its open descriptors, rising.
     pub numbers: Vec<ListedNumber>,
 }
 
@@ -32,7 +32,7 @@ pub struct ListedTable {
 pub struct ListedMessage {
     /// The user who sent it.
     pub user: Uid,
-    /// The files that travel with it, in order, repeats included.
+    /// Its attached files, in order, repeats included.
     pub attached: Vec<Ino>,
 }
 

@@ -7,6 +7,6 @@ pub struct Ready {
     pub readable: bool,
     /// A send of a byte without descriptors has room (POLLOUT).
     pub writable: bool,
-    /// The peer is gone (POLLHUP).
+    /// The peer was freed (POLLHUP).
     pub hung_up: bool,
 }

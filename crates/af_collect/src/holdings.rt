@@ -1,5 +1,4 @@
-//! All that is there: the processes, the files, and the counts that are kept of them, always in
-//! step.
+//! The processes, the files, and the counts that are kept of them, always in step.
 ghost use Rattle.std.specs.Prelude.{◌≡◌};
 ghost use Rattle.std.specs.FinMap as map;
 ghost use Rattle.af_base.specs.World.{empty_world, untold};
@@ -21,7 +20,7 @@ pub struct Holdings {
     pub(crate) ledger: Ledger,
 }
 
-/// It is written out, and not derived, so that what owns holdings has one call where it drops them,
+/// It is written out, and not derived: so an owner's proof has one call where it drops holdings,
 /// and not the drop of each of their parts.
 impl Drop for Holdings {
     fn drop(self) {

@@ -1,4 +1,4 @@
-//! The store: all that is there, and the collector beside it.
+//! The store: processes, files and their counts, and the collector beside them.
 //!
 //! Only these calls add or remove references: those of `places` and `sockets`, those that make
 //! files (`make_plain`, `make_two`, `open_at`, `pair_at`), copy or remove a process

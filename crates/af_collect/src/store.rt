@@ -1,4 +1,4 @@
-//! All that is there, and beside it the pass that runs.
+//! The store: processes, files and their counts, and beside them the pass that runs.
 ghost use Rattle.std.specs.Prelude.{◌≡◌, ◌<◌, ◌≤◌, ◌+◌, ◌∷◌, [], false, None, Some, IsTrue, IsOk};
 ghost use Rattle.std.specs.Prelude.{IfOk, OnOk, OnErr, true};
 ghost use Rattle.std.specs.FinMap as map;
@@ -31,7 +31,7 @@ pub struct Store {
     pub(crate) parts: Collector,
 }
 
-/// It is written out, and not derived, so that what owns a store has one call where it drops it.
+/// It is written out, and not derived: so an owner's proof has one call where it drops a store.
 impl Drop for Store {
     fn drop(self) {
         let Store { parts: _ } = self;

@@ -9,7 +9,7 @@ use af_base::ids::{Ino, Uid};
 use af_base::listing::{ListedFile, ListedMessage};
 use std::alloc::AllocError;
 
-/// Appends an edge to a file that travels with a message of the user.
+/// Appends an edge to a file that is attached to a message of the user.
 fn push_attached(text: &mut String, ino: Ino, user: Uid, attached: Ino) -> Result<(), AllocError>
     ensures { OnOk result (AppendsText text.old text.new (attached_text ino user attached)) }
 {
@@ -19,7 +19,7 @@ fn push_attached(text: &mut String, ino: Ino, user: Uid, attached: Ino) -> Resul
     )
 }
 
-/// Appends an edge to each file that travels with a message of the user.
+/// Appends an edge to each file that is attached to a message of the user.
 fn push_message(text: &mut String, ino: Ino, user: Uid, attached: &[Ino]) -> Result<(), AllocError>
     ensures { OnOk result
         (AppendsText text.old text.new (flat_map (attached_text ino user) attached.now)) }
@@ -37,7 +37,7 @@ fn push_embryo(text: &mut String, ino: Ino, embryo: Ino) -> Result<(), AllocErro
     writeln!(text, "f{ino} -> f{embryo} [style=dashed, label=embryo]")
 }
 
-/// Appends an edge to each file that travels with a message of a queue.
+/// Appends an edge to each file that is attached to a message of a queue.
 fn push_queue(text: &mut String, ino: Ino, queue: &[ListedMessage]) -> Result<(), AllocError>
     ensures { OnOk result (AppendsText text.old text.new
         (flat_map (λ m. message_text ino (message_of m)) queue.now)) }

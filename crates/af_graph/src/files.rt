@@ -99,8 +99,8 @@ fn is_in(inos: &[Ino], ino: Ino) -> bool
     inos.binary_search(&ino).is_ok()
 }
 
-/// Appends all live files and edges to their peers, by rising number. The lost ones, a list that
-/// rises, have the colour of garbage.
+/// Appends all live files and edges to their peers, by rising number. The lost ones, garbage in a
+/// list that rises, have the colour of garbage.
 pub fn push_files(text: &mut String, engine: &Engine, lost: &[Ino]) -> Result<(), AllocError>
     requires { IsStrictlyIncreasing lost.now }
     ensures { OnOk result (AppendsText text.old text.new (files_text engine.now.world lost.now)) }

@@ -29,7 +29,7 @@ pub fn lock<'a, T, R: Wait>(mutex: &'a Mutex<T>, rt: &R) -> MutexGuard<'a, T> {
     }
 }
 
-/// Waits for the lock, which another thread had a moment ago.
+/// Waits for the lock, which another thread had at the first look.
 #[cold]
 #[inline(never)]
 fn lock_later<'a, T, R: Wait>(mutex: &'a Mutex<T>, rt: &R) -> MutexGuard<'a, T> {

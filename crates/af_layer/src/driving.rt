@@ -15,7 +15,7 @@ use std::sync::Wait;
 use std::thread::Threads;
 use thiserror::Error;
 
-/// Why a drive did not do all.
+/// Why a drive did not do all its scripts and turns.
 #[derive(Clone, Copy, Debug, PartialEq, Eq, Drop, Error)]
 pub enum DriveFault {
     /// There are fewer seats than scripts, the collector counted as one more; nothing was started.
@@ -29,7 +29,7 @@ pub enum DriveFault {
     Call(u32, CallError),
 }
 
-/// A drive that did not do all, with the seats in their order.
+/// A drive that did not do all its scripts and turns, with the seats in their order.
 #[derive(Drop)]
 pub struct DriveError {
     /// Why.
@@ -134,8 +134,8 @@ fn take_back(mut seats: Vec<Seat>, workers: Vec<Worker>) -> Vec<Seat>
 /// seat's list is empty or ends in a reply other than `Started` and `Working`, and else a slice.
 /// The other seats come back untouched.
 ///
-/// A worker stops at the first call that is refused; the others go on to their ends. All seats come
-/// back either way, in their order.
+/// A worker stops at the first call that is refused; the others continue to their ends. All seats
+/// come back either way, in their order.
 pub fn drive<R: Threads + Wait + Sync, O: Origin + Send, G: Gate + Sync>(
     rt: &R,
     layer: &Layer<O>,

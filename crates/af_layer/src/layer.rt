@@ -180,7 +180,7 @@ impl<O: Origin> LayerGuard<'_, O> {
 }
 
 impl Layer {
-    /// Lets the log be taken from now on.
+    /// Turns the layer into one whose log can be taken, by [`Layer::checkpoint`].
     pub fn allow_checkpoints(self) -> Layer<AtCheckpoint> {
         Layer::of(self.into_book())
     }

@@ -1,4 +1,4 @@
-//! A seat: who calls, and what was answered to it.
+//! A seat: from it a thread calls, and it lists what was answered.
 ghost use Rattle.std.specs.Prelude.{◌≡◌, ◌<◌, ◌⊎◌, ◌++◌, ◌∷◌, [], IfErr, IfOk, IsSome, None, OnErr};
 ghost use Rattle.std.specs.Prelude.{OnOk, Some, vec_capacity, vec_len};
 ghost use Rattle.af_base.specs.declared.events.Reply.{Reply as Answer};
@@ -53,7 +53,7 @@ impl Seat {
         self.number
     }
 
-    /// Returns what was asked from here and answered, in order.
+    /// Returns the events that were done from this seat, in order, each with its reply.
     pub fn list(&self) -> &[EventReply]
         ensures { result.now ≡ self.now.list }
     {
@@ -68,7 +68,7 @@ impl Seat {
         reserve_touched(&mut self.list, pairs, || EventReply::of(Entry::blank()))
     }
 
-    /// Forgets what was asked from here. The room for it stays.
+    /// Empties the list. Its room stays.
     pub(crate) fn empty_list(&mut self)
         ensures { self.new ≡ record self.old { list = [] } }
     {
@@ -114,8 +114,8 @@ impl Seat {
         Ok(())
     }
 
-    /// Does the same on a book behind a lock. Only the step and its entry in the log are under the
-    /// lock, and not the work on the list.
+    /// Does an event that has no bytes, and whose reply has none, on a book behind a lock. Only the
+    /// step and its entry in the log are under the lock, and not the work on the list.
     #[inline(always)]
     pub(crate) fn call_locked<R: Wait, O: Origin>(
         &mut self,

@@ -53,7 +53,7 @@ pub enum Assignment {
     Collect(Turns),
 }
 
-/// A seat, what is to be done from it, if anything is, and what stopped it.
+/// A seat with its work, if it has any, and the error that stopped it.
 #[derive(Drop)]
 pub struct Worker {
     pub seat: Seat,

@@ -167,7 +167,7 @@ impl Ledger {
         }
     }
 
-    /// Lowers the charge of a user by this many units, which it has. Takes no memory.
+    /// Lowers the charge of a user by this many units; it is at least as many. Takes no memory.
     #[inline(always)]
     #[tactic(auto, using(crate::proofs::Users::user_changes))]
     pub fn uncharge(&mut self, uid: Uid, units: u64)

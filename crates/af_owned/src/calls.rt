@@ -12,10 +12,10 @@ use af_base::items::{Bytes, Fds};
 use af_steps::{Finished, Progress, Received};
 
 impl<T> Owned<T> {
-    /// Starts a process with an empty table, as after fork(2) and setuid(2), and returns its pid.
-    /// The user's share of descriptors in flight does not bind a privileged one (unix(7),
-    /// CAP_SYS_RESOURCE). Refused, in this order: ERANGE (the limit is over 1,024), EAGAIN,
-    /// ENOMEM.
+    /// Starts a process, as after fork(2) and setuid(2), with an empty table and this limit on its
+    /// descriptors (RLIMIT_NOFILE). A privileged one is not held to its user's share of descriptors
+    /// in flight (unix(7), CAP_SYS_RESOURCE). Returns its pid. Refused, in this order: ERANGE (the
+    /// limit is over 1,024), EAGAIN, ENOMEM.
     pub fn spawn(&mut self, uid: Uid, nofile: u32, privileged: bool) -> Result<Pid, Errno>
         ensures done { IfOk result (λ pid.
             Starts self.old.machine uid nofile privileged pid self.new.machine) }
@@ -26,8 +26,8 @@ impl<T> Owned<T> {
         self.engine.spawn(uid, nofile, privileged)
     }
 
-    /// Duplicates a descriptor to the lowest free one (dup(2)), which is returned. Refused, in
-    /// this order: ESRCH, EBADF, EMFILE, ENOMEM.
+    /// Duplicates a descriptor (dup(2)). Returns the new one, the lowest free one of the process.
+    /// Refused, in this order: ESRCH, EBADF, EMFILE, ENOMEM.
     pub fn dup(&mut self, pid: Pid, from: Fd) -> Result<Fd, Errno>
         ensures done { IfOk result (λ fd.
             Does self.old.machine pid (Step.Dup from) (Reply.Fd fd) self.new.machine) }
@@ -38,8 +38,8 @@ impl<T> Owned<T> {
         self.engine.dup(pid, from)
     }
 
-    /// Duplicates a descriptor to another one, in place of what that referred to (dup2(2)).
-    /// Refused, in this order: ESRCH, EBADF, ENOMEM.
+    /// Makes the descriptor `to` refer to the file of `from` (dup2(2)); if it is open, it is
+    /// closed first. Returns `to`. Refused, in this order: ESRCH, EBADF, ENOMEM.
     pub fn dup2(&mut self, pid: Pid, from: Fd, to: Fd) -> Result<Fd, Errno>
         ensures done { IfOk result (λ fd.
             Does self.old.machine pid (Step.Dup2 from to) (Reply.Fd fd) self.new.machine) }
@@ -200,9 +200,9 @@ impl<T> Owned<T> {
         self.engine.send_owned(pid, on, bytes, attach)
     }
 
-    /// Receives at most this many bytes and descriptors (recvmsg(2)). A file whose descriptor is
-    /// dropped may be freed, and its value is then to be taken. The refusals are those of
-    /// `Engine::recv`.
+    /// Receives at most this many bytes and descriptors (recvmsg(2)). A file that gets no
+    /// descriptor may be freed, and `take_released` then hands back its value. The refusals are
+    /// those of `Engine::recv`.
     pub fn recv(
         &mut self,
         pid: Pid,
@@ -219,7 +219,7 @@ impl<T> Owned<T> {
         self.engine.recv(pid, on, max_bytes, max_fds)
     }
 
-    /// Returns what a receive would, and leaves it in the queue (recvmsg(2), MSG_PEEK). The
+    /// Returns what a receive would take, which stays in the queue (recvmsg(2), MSG_PEEK). The
     /// refusals are those of `Engine::peek`.
     pub fn peek(
         &mut self,

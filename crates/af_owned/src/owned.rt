@@ -62,8 +62,9 @@ impl<T> Owned<T> {
         })
     }
 
-    /// Creates the same, which also tells from now on whose readiness may have changed, by
-    /// `changed_sockets`. An event that makes a file then needs room for it in that list too.
+    /// Creates an engine without values that also lists the sockets whose readiness may have
+    /// changed (`changed_sockets`). An event that makes a file then needs memory for it in that
+    /// list too.
     pub fn with_readiness(alloc: Global) -> Result<Owned<T>, AllocError>
         ensures world { IfOk result (λ o. o.machine.world ≡ fresh.world) }
         ensures told { IfOk result (λ o. o.machine.since.changed ≡ true) }
@@ -129,7 +130,7 @@ impl<T> Owned<T> {
         Ok(fd)
     }
 
-    /// Returns what the file carries that a descriptor refers to; nothing where the descriptor is
+    /// Returns the value of the file that a descriptor refers to; nothing where the descriptor is
     /// not open or refers to a socket, or there is no such process. No search.
     pub fn get(&self, pid: Pid, fd: Fd) -> Option<&T>
         ensures { option_copied result
@@ -139,7 +140,8 @@ impl<T> Owned<T> {
         self.values.get(&file)
     }
 
-    /// Returns the same value, to write to.
+    /// Lends the value of the file that a descriptor refers to, to write to; nothing where the
+    /// descriptor is not open or refers to a socket, or there is no such process. No search.
     pub fn get_mut(&mut self, pid: Pid, fd: Fd) -> Option<&mut T>
         ensures* writes_back { sem 𝓛 (lends_value_at T.row self.entry pid fd result) }
         ensures value { option_copied_mut result
@@ -161,9 +163,9 @@ impl<T> Owned<T> {
     }
 
     /// Hands back the value of a file that was freed; nothing where each was handed back. It
-    /// needs no memory. Call it after an event until it returns nothing: then the lists of freed
-    /// files and of changed readiness are empty too, so read `changed_sockets` before. The values
-    /// come in no order that is promised.
+    /// needs no memory. Call it after an event until it returns nothing: that call also empties
+    /// the lists of freed files and of changed readiness, so read `changed_sockets` before. The
+    /// values come in no promised order.
     pub fn take_released(&mut self) -> Option<T>
         ensures some { IfSome result (λ value. HandsBack self.old value self.new) }
         ensures fewer { OnSome result (map.len self.new.values < map.len self.old.values) }

@@ -21,7 +21,7 @@ pub struct Engine {
     pub(crate) last_pass: u64,
 }
 
-/// It is written out, and not derived, so that what owns an engine has one call where it drops it.
+/// It is written out, and not derived: so an owner's proof has one call where it drops an engine.
 impl Drop for Engine {
     fn drop(self) {
         let Engine {

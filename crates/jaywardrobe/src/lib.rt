@@ -1,6 +1,6 @@
-//! An in-memory AF_UNIX layer: sockets, the descriptors that travel inside their messages
-//! (SCM_RIGHTS), exact counts of both, and a collector for cycles of sockets that only hold each
-//! other. For a user-space kernel, a sandbox that brokers descriptors, or a test bed.
+//! An in-memory AF_UNIX layer: sockets, the descriptors inside their messages (SCM_RIGHTS), exact
+//! counts of both, and a collector for cycles of sockets that only refer to each other. For a
+//! user-space kernel, a sandbox that brokers descriptors, or a test bed.
 //!
 //! ```text
 //! /// Loses a file in a cycle, collects it, and closes what is behind it.

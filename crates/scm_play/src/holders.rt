@@ -9,7 +9,7 @@ use std::alloc::AllocError;
 pub enum Holder {
     /// An open descriptor of a process.
     Descriptor(Pid, Fd),
-    /// The queue of a socket: the file travels with a message there.
+    /// The queue of a socket: the file is attached to a message there.
     Queue(Ino),
     /// The backlog of a listener: the file is an embryo that waits there.
     Backlog(Ino),

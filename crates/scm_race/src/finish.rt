@@ -96,7 +96,7 @@ pub fn last_pass<R: Wait, O: Origin>(
     ensures done { OnOk result ((pass reclaimed : ℕ)
         × (main.new ≡ grown main.old Asked.Pass (Answer.Done pass reclaimed))) }
 
-    // A pass asks for no memory: where it was answered, a fault is no want of any.
+    // A pass needs no memory, so a fault after its reply is not one of memory.
     ensures answered { IfErr result (λ fault. (reply : Answer)
         → main.new ≡ grown main.old Asked.Pass reply → fault ≡ RaceFault.Failed) }
 {

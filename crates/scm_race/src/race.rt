@@ -75,7 +75,7 @@ impl Race {
 
     /// Plays the whole race on a layer that was just opened, and gives its seats back.
     ///
-    /// The layer is lent, so that what stops the race need not give up a whole engine.
+    /// The layer is lent, so that no early end here drops an engine.
     fn play<R: Threads + Wait + Sync>(
         self,
         rt: &R,

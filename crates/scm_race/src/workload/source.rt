@@ -20,8 +20,8 @@ const BACKLOG: u32 = 8;
 /// How many events each script begins with.
 const OPENING: u32 = 4;
 
-/// The rest of a worker's script. Events are made as they are asked for, so a script of any length
-/// takes no memory.
+/// The rest of a worker's script. Events are made when they are asked for, so a long script takes
+/// no more memory than a short one.
 #[derive(Drop)]
 pub struct Source {
     worker: u32,
