@@ -94,7 +94,7 @@ limited n q = record q { limit = n }
 abbrev pub set_limit : World → ℕ → ℕ → World
 set_limit w p n = with_process w p (limited n)
 
--- Process p is gone, and its table with it (_exit(2)).
+-- Process p is removed, and its table with it (_exit(2)).
 abbrev pub remove_process : World → ℕ → World
 remove_process w p = record w { processes = map.remove w.processes p }
 

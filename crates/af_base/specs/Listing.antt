@@ -38,7 +38,7 @@ table_of t = keyed (λ n. n.fd) (λ n. n.ino) t.numbers.items
 abbrev pub inos_of : ListedTable → List ℕ
 inos_of t = map (λ n. n.ino) t.numbers.items
 
--- The user whom a message is charged to, once for each file that travels with it.
+-- The user whom a message is charged to, once for each attached file.
 abbrev pub payers_of : Message → List ℕ
 payers_of m = map (λ _. m.user) m.attached
 

@@ -17,8 +17,8 @@ pub data Pass : Type 0 where
   Idle : Pass
   Running : (begun : World) → (spent : ℕ) → Pass
 
--- The machine: the world, the pass, the number of the last pass (0 at first), and the lists of
--- reports.
+-- The machine: the world, the pass, the number of the last pass (0 at first), and since when freed
+-- files and changed readiness are told.
 pub record Machine : Type 0 where
   pub world : World
   pub pass : Pass
@@ -57,9 +57,9 @@ Begins Idle old r new = (r ≡ reply.Started (next_pass old.last_pass)) × (new 
 })
 Begins (Running begun spent) old r new = (r ≡ reply.Refused EBUSY) × (new ≡ old)
 
--- A slice of budget b: at most b files, all garbage of the begin, are purged. It may go on while
--- the budgets are within three times the files of the begin, and is done only where none of that
--- garbage is live.
+-- A slice of budget b: at most b files, all garbage of the begin, are purged. The pass may continue
+-- while the budgets are within three times the files of the begin, and is done only where none of
+-- that garbage is live.
 pub record Slices (begun old : World) (spent b pass : ℕ) (r : Reply) (new : World)
     (after : Pass) : Type 0 where
   pub emptied_files : List ℕ

@@ -24,7 +24,7 @@ abbrev pub backlog_of : File → List ℕ
 backlog_of Plain = []
 backlog_of (AsSocket s) = s.backlog
 
--- The files that travel in a queue, in order, repeats included.
+-- The files attached to the messages of a queue, in order, repeats included.
 abbrev pub attached_in : List Message → List ℕ
 attached_in q = flat_map (λ m. m.attached) q
 

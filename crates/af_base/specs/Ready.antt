@@ -41,7 +41,7 @@ ready w f = ready_in w.files f
 
 -- The readiness that steps of process p find at descriptor n: readable if a receive of one byte
 -- without descriptors is not refused, or an accept is not before it needs a descriptor; writable if
--- a send of one byte is not refused; hung up if the peer is gone.
+-- a send of one byte is not refused; hung up if the peer was freed.
 abbrev pub found : World → ℕ → ℕ → Ready
 found w p n = record {
   readable = is_none (refusal w p (step.Recv n 1 0)) || is_none (first_fit

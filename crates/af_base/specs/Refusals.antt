@@ -53,7 +53,7 @@ ino_on w p n = unwrap_or (table_at w p n) 0
 abbrev pub socket_on : World → ℕ → ℕ → Socket
 socket_on w p n = unwrap_or (option_and_then (socket_at w) (table_at w p n)) no_socket
 
--- Whether it was ever connected, also where the peer is gone.
+-- Whether it was ever connected, also where the peer was freed.
 abbrev pub is_connected : State → Bool
 is_connected state.Idle = false
 is_connected (state.Listening b) = false
@@ -67,7 +67,7 @@ is_same_type Stream Seqpacket = false
 is_same_type Seqpacket Stream = false
 is_same_type Seqpacket Seqpacket = true
 
--- Whether its peer is gone.
+-- Whether its peer was freed.
 abbrev pub is_hung_up : State → Bool
 is_hung_up state.Idle = false
 is_hung_up (state.Listening b) = false
@@ -188,7 +188,7 @@ on_listener s kind =
     ∷ (nat_le (room_of s.state) (length s.backlog), EAGAIN)
     ∷ []
 
--- Somebody must wait at the socket to be accepted (accept(2), EINVAL, EAGAIN).
+-- The socket must listen, and an embryo wait there (accept(2), EINVAL, EAGAIN).
 abbrev pub on_accept : Socket → RefusalRow
 on_accept s = (not (is_listening s.state), EINVAL) ∷ (nat_eq (length s.backlog) 0, EAGAIN) ∷ []
 
@@ -205,9 +205,9 @@ on_parts look bytes attach =
 abbrev pub on_peer : Socket → RefusalRow
 on_peer s = (not (is_connected s.state), ENOTCONN) ∷ (is_hung_up s.state, EPIPE) ∷ []
 
--- So many files more must not be too much in flight, for a user with this charge and limit, where
--- all users together have that total (unix(7), ETOOMANYREFS; that the new ones do not count for the
--- user, and ENOBUFS, are this project's profile).
+-- A message with this many files must not be too much in flight, for a user with this charge and
+-- limit, where all users together have that total (unix(7), ETOOMANYREFS; that the new ones do not
+-- count for the user, and ENOBUFS, are this project's profile).
 abbrev pub on_charge : ℕ → ℕ → ℕ → Bool → ℕ → RefusalRow
 on_charge charge total limit privileged files =
     (nat_lt 0 files && (not privileged && nat_lt limit charge), ETOOMANYREFS)

@@ -1,4 +1,4 @@
--- How much a release can find to do.
+-- A measure of what a release can find to do.
 use Rattle.std.specs.Prelude.{ℕ, length}
 use Rattle.af_base.specs.World.{World}
 use Rattle.af_base.specs.Places.{queue_of}

@@ -63,7 +63,7 @@ abbrev pub spawned : World → ℕ → ℕ → Bool → World
 spawned w uid nofile privileged = add_user (add_process w
     (record { user = uid; limit = nofile; privileged = privileged; table = map.empty })) uid
 
--- The reply of a receive: an empty receive is End, if the peer is gone and nothing is left
+-- The reply of a receive: an empty receive is End, if the peer was freed and nothing is left
 -- (recvmsg(2)).
 abbrev pub received : World → ℕ → ℕ → ℕ → ℕ → Reply
 received w p n max_bytes max_fds =
@@ -135,7 +135,7 @@ needs_no_memory (step.Limit n) = true
 needs_no_memory s = false
 
 -- The outcome of a step: refused by an error and nothing changed; or answered, and the changed
--- world settled; or, where the step may need memory, refused for want of it and nothing changed.
+-- world settled; or, where the step may need memory, refused with ENOMEM and nothing changed.
 abbrev pub Outcome : Option Errno → Bool → Reply → World → World → Reply → World → Type 0
 Outcome (Some e) frugal answer effect old r new = (r ≡ reply.Refused e) × (new ≡ old)
 Outcome None true answer effect old r new = (r ≡ answer) × Settles effect new

@@ -23,8 +23,8 @@ joined q = flat_map (λ m. m.bytes) q
 abbrev pub nothing_taken : TakeResult
 nothing_taken = record { bytes = []; attached = []; trunc = false; rest = [] }
 
--- A packet: the first message's first n bytes and all that travels with it; the rest of its bytes
--- is dropped (unix(7), SOCK_SEQPACKET).
+-- A packet: the first message's first n bytes and all its files; the rest of its bytes is dropped
+-- (unix(7), SOCK_SEQPACKET).
 abbrev pub take_seqpacket : List Message → ℕ → TakeResult
 take_seqpacket [] n = nothing_taken
 take_seqpacket (m ∷ q) n = record {
@@ -34,7 +34,7 @@ take_seqpacket (m ∷ q) n = record {
   rest = q;
 }
 
--- The queue without its first c bytes: a message that keeps no byte is gone, and one that lost a
+-- The queue without its first c bytes: a message that keeps no byte is removed, and one that lost a
 -- byte keeps no file.
 abbrev pub cut : ℕ → List Message → List Message
 cut c [] = []
@@ -43,7 +43,7 @@ cut c (m ∷ q) =
     then cut (c - length m.bytes) q
     else if nat_lt 0 c then record m { bytes = drop c m.bytes; attached = [] } ∷ q else m ∷ q
 
--- Whether files travel with the message.
+-- Whether the message has files.
 abbrev pub has_files : Message → Bool
 has_files m = nat_lt 0 (length m.attached)
 

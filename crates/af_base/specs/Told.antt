@@ -1,4 +1,4 @@
--- The reports since the lists were last emptied: which files were freed, and whose readiness may
+-- What is told since the lists were last emptied: which files were freed, and whose readiness may
 -- have changed. Definitions that name no manual page are this project's own.
 use Rattle.std.specs.Prelude.{◌≡◌, ◌+◌, ℕ, Bool, true, List, IsTrue, is_some, nat_lt, if◌then◌else◌}
 use Rattle.std.specs.Option.{option_and_then}

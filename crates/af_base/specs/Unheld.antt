@@ -11,14 +11,15 @@ use Rattle.af_base.specs.Places.{InTable, Holds}
 pub data Unheld (w : World) : ℕ → Type 0 where
   Goes : (f : ℕ) → IsLive w f → ¬ (InTable w f) → ((s : ℕ) → Holds w s f → Unheld w s) → Unheld w f
 
--- A state where some files are gone: who was connected to one of them has hung up (unix(7), EPIPE).
+-- A state after some files are freed: a socket that was connected to one of them has hung up
+-- (unix(7), EPIPE).
 abbrev pub state_without : (ℕ → Bool) → State → State
 state_without gone state.Idle = state.Idle
 state_without gone (state.Listening b) = state.Listening b
 state_without gone (state.Connected peer) = cond (gone peer) state.HungUp (state.Connected peer)
 state_without gone state.HungUp = state.HungUp
 
--- A file where some others are gone.
+-- A file after some others are freed.
 abbrev pub file_without : (ℕ → Bool) → File → File
 file_without gone Plain = Plain
 file_without gone (AsSocket s) = AsSocket (record s { state = state_without gone s.state })
@@ -36,11 +37,11 @@ without gone w = record w {
       (λ f. not (gone f));
 }
 
--- `new` is `old` settled: without exactly what nothing holds (this project's profile: in the same
+-- `new` is `old` settled: without exactly its unheld files (this project's profile: in the same
 -- step).
 abbrev pub Settles : World → World → Type 0
 Settles old new = (gone : ℕ → Bool) × ((f : ℕ) → (gone f ≡ true) ↔ Unheld old f) × (new ≡ without gone old)
 
--- Nothing is to go.
+-- Nothing is to be freed.
 abbrev pub IsSettled : World → Type 0
 IsSettled w = (f : ℕ) → ¬ (Unheld w f)

@@ -12,8 +12,8 @@ use Rattle.af_base.specs.declared.events.State.{State}
 abbrev pub Map : Type 0 → Type 0
 Map X = FinMap nat_cmp X
 
--- A message in a receive queue: its bytes, the files that travel with it, and the user who is
--- charged for them (unix(7), SCM_RIGHTS; whom it charges is this project's profile).
+-- A message in a receive queue: its bytes, its attached files, and the user who is charged for them
+-- (unix(7), SCM_RIGHTS; whom it charges is this project's profile).
 pub record Message : Type 0 where
   pub bytes : List ℕ
   pub attached : List ℕ
@@ -41,7 +41,7 @@ pub record Process : Type 0 where
   pub privileged : Bool
   pub table : Map ℕ
 
--- All that is there, with the next numbers to give, and the users in the order of their first
+-- The processes and files, the next numbers to give, and the users in the order of their first
 -- process.
 pub record World : Type 0 where
   pub processes : Map Process
@@ -50,15 +50,15 @@ pub record World : Type 0 where
   pub next_pid : ℕ
   pub users : List ℕ
 
--- Whether freed files and changed readiness are reported; the files when the lists were last
--- emptied, and the next inode number then.
+-- Whether changed readiness and freed files are told; the files when the lists were last emptied,
+-- and the next inode number then.
 pub record Since : Type 0 where
   pub changed : Bool
   pub released : Bool
   pub files : Map File
   pub next : ℕ
 
--- Nothing is reported.
+-- Nothing is told.
 abbrev pub untold : Since
 untold = record { changed = false; released = false; files = map.empty; next = 1 }
 

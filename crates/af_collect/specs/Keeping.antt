@@ -1,4 +1,4 @@
--- The whole of what is kept: the world, and beside it the marks and how far the pass is.
+-- The invariant of a pass: of the world, and beside it of the marks and the progress.
 -- Definitions that name no manual page are of this project's profile (docs/PROFILE.md).
 use Rattle.std.specs.Prelude.{◌≡◌, ◌≤◌, ◌+◌, ◌&&◌, ℕ, Bool, true, false, not, nat_eq, nat_lt, List, [], ◌∷◌, length, take, if◌then◌else◌}
 use Rattle.af_base.specs.World.{World, IsLive, is_live}
@@ -12,7 +12,7 @@ use Rattle.af_collect.specs.declared.progress.Stage.TheVariants.{Marking, Restin
 use Rattle.af_collect.specs.declared.progress.PassProgress.{PassProgress}
 use Rattle.af_collect.specs.Since.{AreCounted, IsMarking, IsSince, IsSweeping, is_scanned, is_socket_at}
 
--- The marks know just the live files.
+-- There are marks of just the live files.
 abbrev pub AreKnown : World → MarksView → Type 0
 AreKnown w m = (f : ℕ) → knows m f ≡ is_live w f
 
@@ -20,8 +20,8 @@ AreKnown w m = (f : ℕ) → knows m f ≡ is_live w f
 abbrev pub below : ℕ → ℕ → Bool
 below n f = nat_lt f n
 
--- A pass runs: the world is one since its begin, only files of the begin are marked, and each unit
--- is counted.
+-- What both stages keep: the world comes from the begin (`IsSince`), only files of the begin are
+-- marked, and each unit is counted.
 pub record IsRunning (w begun : World) (m : MarksView) (c : PassProgress) : Type 0 where
   pub since : IsSince begun w m.bound
   pub marked : (f : ℕ) → is_marked m f ≡ true → IsLive begun f
@@ -29,7 +29,7 @@ pub record IsRunning (w begun : World) (m : MarksView) (c : PassProgress) : Type
       (below c.swept) c.looked
   pub low : m.bound ≤ w.next_ino
 
--- It marks.
+-- What a pass keeps while it marks.
 pub record IsInMarking (w begun : World) (m : MarksView) (c : PassProgress) : Type 0 where
   pub running : IsRunning w begun m c
   pub marking : IsMarking begun w (is_marked m) (is_grey m) (below c.visited)
@@ -37,7 +37,7 @@ pub record IsInMarking (w begun : World) (m : MarksView) (c : PassProgress) : Ty
   pub none_reclaimed : c.reclaimed ≡ 0
   pub visited_low : c.visited ≤ m.bound
 
--- It sweeps.
+-- What a pass keeps while it sweeps.
 pub record IsInSweeping (w begun : World) (m : MarksView) (c : PassProgress) : Type 0 where
   pub running : IsRunning w begun m c
   pub sweeping : IsSweeping begun w (is_marked m) (below c.swept) c.reclaimed
@@ -48,7 +48,7 @@ IsStage Resting w begun m c = Unit {0}
 IsStage Marking w begun m c = IsInMarking w begun m c
 IsStage Sweeping w begun m c = IsInSweeping w begun m c
 
--- All that is kept, between any two changes.
+-- All that a pass keeps, between any two changes.
 pub record PassInvariant (w begun : World) (m : MarksView) (c : PassProgress) : Type 0 where
   pub known : AreKnown w m
   pub stage : IsStage c.stage w begun m c
@@ -123,6 +123,6 @@ first_held w s = if nat_eq (length (queue_at w s)) 0 then take 1 (backlog_at w s
 abbrev pub is_counted : World → MarksView → PassProgress → ℕ → Bool
 is_counted w m c f = is_sweeping c.stage && (is_socket_at w f && (nat_lt f m.bound && not (is_marked m f)))
 
--- How far the pass is when the file has gone.
+-- The progress of the pass after the file is freed.
 abbrev pub counted : World → MarksView → ℕ → PassProgress → PassProgress
 counted w m f c = record c { reclaimed = c.reclaimed + (if is_counted w m c f then 1 else 0) }

@@ -26,6 +26,6 @@ without_descriptor stage f v = without_file_ref Table f (record v {
   marks = shaded_in stage (f ∷ []) v.marks;
 })
 
--- The same for a descriptor that referred to this file, if any.
+-- The files after a descriptor lost its reference to this file, if it referred to one.
 abbrev pub vacated : Stage → Option ℕ → FilesView → FilesView
 vacated stage o v = option_map_or (λ f. without_descriptor stage f v) o v

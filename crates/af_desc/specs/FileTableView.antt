@@ -24,8 +24,8 @@ pub record FileTableView : Type 0 where
   pub room : ℕ
   pub message_room : Bool
 
--- A row more, of this file, which this place holds, no pass has marked and no list has; there is so
--- much room then.
+-- One row more, of this file: this place is its first reference, and it is unmarked and not dirty.
+-- This much room is left then.
 abbrev pub with_entry : ℕ → File → Place → ℕ → FileTableView → FileTableView
 with_entry f x p room r = record r {
   files = map.insert r.files f x;
@@ -36,7 +36,7 @@ with_entry f x p room r = record r {
   room = room;
 }
 
--- A row less.
+-- Without this row, and with this much room.
 abbrev pub without_entry : ℕ → ℕ → FileTableView → FileTableView
 without_entry f room r = record r {
   files = map.remove r.files f;
@@ -57,6 +57,6 @@ with_socket_and_room r f g room = record r {
   message_room = room;
 }
 
--- Which of these rows are in that list.
+-- Which of these rows are dirty: in the list of changed sockets.
 abbrev pub dirty_of : Map FileRow → Map Bool
 dirty_of m = part (λ r. nat_lt 0 r.dirty_at) m

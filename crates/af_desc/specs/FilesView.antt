@@ -43,7 +43,7 @@ is_full v k = is_full_of v.files v.next k
 abbrev pub is_live : FilesView → ℕ → Bool
 is_live v f = map.contains_key v.files f
 
--- A file more, under the next number, which this place holds and no pass has marked.
+-- One file more, under the next number, with this place as its first reference and unmarked.
 abbrev pub entered : Place → File → FilesView → FilesView
 entered p x v = record v {
   files = map.insert v.files v.next x;
@@ -57,7 +57,7 @@ abbrev pub paired : Place → SockType → FilesView → FilesView
 paired p kind v = entered p (AsSocket (connected_socket kind v.next))
     (entered p (AsSocket (connected_socket kind (v.next + 1))) v)
 
--- A file less.
+-- Without this file.
 abbrev pub without : ℕ → FilesView → FilesView
 without f v = record v {
   files = map.remove v.files f;
@@ -87,7 +87,7 @@ changed g f v = record v { files = change_socket_at g v.files f }
 abbrev pub changed_queue : (Socket → Socket) → ℕ → Bool → FilesView → FilesView
 changed_queue g f room v = record (changed g f v) { message_room = room }
 
--- A socket whose peer is gone (unix(7)).
+-- A socket whose peer was freed (unix(7)).
 abbrev pub hung_up : Socket → Socket
 hung_up s = record s { state = state.HungUp }
 
@@ -107,19 +107,19 @@ socket_in files f = option_and_then socket_of (map.get files f)
 abbrev pub is_unmarked_socket : Map File → MarksView → ℕ → Bool
 is_unmarked_socket files m f = is_some (socket_in files f) && is_unmarked m f
 
--- These files after a socket of this state is gone: its peer has hung up (unix(7), EPIPE).
+-- These files after a socket of this state is freed: its peer has hung up (unix(7), EPIPE).
 abbrev pub after_hangup : State → Map File → Map File
 after_hangup state.Idle files = files
 after_hangup (state.Listening b) files = files
 after_hangup (state.Connected peer) files = change_socket_at hung_up files peer
 after_hangup state.HungUp files = files
 
--- The same after this file is gone, which may be a socket.
+-- These files after another is freed, which may be this socket.
 abbrev pub after_end : Option Socket → Map File → Map File
 after_end None files = files
 after_end (Some s) files = after_hangup s.state files
 
--- A file less, whose peer has hung up.
+-- Without this file, whose peer has hung up.
 abbrev pub freed : ℕ → FilesView → FilesView
 freed f v = record (without f v) { files = after_end (socket_in v.files f) (map.remove v.files f) }
 
@@ -160,15 +160,15 @@ without_embryo Table n = n
 without_embryo (Queue u) n = n
 without_embryo Backlog n = if nat_lt n (2 ^ 64 - 1) then n - 1 else n
 
--- No more files than this number were born before the pass, and are not marked: they are those
--- below the bound, which is no later than the next number.
+-- At most this many files were there when the pass began and are not marked: those below the bound,
+-- which is no later than the next number.
 abbrev pub AreWhite : Map Mark → ℕ → ℕ → ℕ → ℕ → Type 0
 AreWhite marks epoch bound next n = (bound ≤ next)
     × (white_count (record { colors = colors_in epoch marks; bound = bound }) ≤ n)
 
--- The rows fit all else: numbers begin at 1 and rise, the names are those of the files, the lists
--- have just the files that wait and those that are grey, with room for all, and for as many as the
--- rows say, and the embryos, and the files that a pass has still to mark, are counted.
+-- Numbers begin at 1 and rise; the names are those of the files; one list has just the unreferenced
+-- files and one just the grey ones, with room for all, and for as many as the rows say; the embryos
+-- and the files that a pass has still to mark are at most the numbers kept.
 pub record FilesInvariant (rows : TrackedTableView) (unreferenced : List ℕ) (room : ℕ) (names : NamesView)
     (next epoch : ℕ) (grey : List ℕ) (most embryos bound white : ℕ) : Type 0 where
   pub last : rows.last + 1 ≡ next

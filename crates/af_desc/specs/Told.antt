@@ -8,7 +8,7 @@ use Rattle.af_base.specs.Told.{AreReleased, is_socket_in}
 use Rattle.af_base.specs.World.{Map, Since}
 use Rattle.af_desc.specs.FileTableView.{FileTableView}
 
--- The reports, and the files when the period began.
+-- What is told, and the files when the lists were last emptied.
 abbrev pub since_of : Bool → Bool → FileTableView → Since
 since_of changed released table = record {
   changed = changed;
@@ -30,8 +30,7 @@ pub record FitsDirty (table : FileTableView) (fs : List ℕ) (space : ℕ) (sinc
   pub same : since.changed ≡ true → (f : ℕ) → IsTrue (is_socket_in table.files f)
       → map.get table.dirty f ≡ Some false → face_in table.files f ≡ face_in since.files f
 
--- Numbers rise; and if freed files are reported, each number is accounted for, and the list has
--- room for all live files.
+-- Numbers rise; and if freed files are listed, the list is right, and has room for all live files.
 pub record AreAccounted (table : FileTableView) (gone : List ℕ) (space : ℕ) (since : Since) : Type 0 where
   pub later : since.next ≤ table.last + 1
   pub below : (f : ℕ) → table.last < f → map.contains_key table.counts f ≡ false
@@ -50,8 +49,8 @@ pub record AreTold (table : FileTableView) (fs : List ℕ) (space : ℕ) (gone :
   pub accounted : AreAccounted table gone wide since
   pub roomy : HaveSpace all space gone wide since
 
--- The file f becomes dirty if it is a socket and readiness is reported; nothing else changes, and
--- dirty files stay dirty.
+-- The file f becomes dirty if it is a socket and changed readiness is listed; nothing else changes,
+-- and dirty files stay dirty.
 pub record MakesDirty (asked : Bool) (old new : FileTableView) (f : ℕ) : Type 0 where
   pub rest : new ≡ record old { dirty = new.dirty }
   pub dirty : asked ≡ true → IsTrue (is_socket_in old.files f) → map.get new.dirty f ≡ Some false → ⊥

@@ -31,8 +31,8 @@ pub record TrackedTableView : Type 0 where
   pub space : ℕ
   pub message_room : Bool
 
--- A row more, of this file, which this place holds and no pass has marked, with the room that is
--- left then.
+-- One row more, of this file: this place is its first reference, and it is unmarked. This much room
+-- is left then.
 abbrev pub with_row : ℕ → File → Place → ℕ → TrackedTableView → TrackedTableView
 with_row f x p room r = record r {
   files = map.insert r.files f x;
@@ -42,7 +42,7 @@ with_row f x p room r = record r {
   room = room;
 }
 
--- A row less.
+-- Without this row, and with this much room and space.
 abbrev pub without_row : ℕ → ℕ → ℕ → TrackedTableView → TrackedTableView
 without_row f room space r = record r {
   files = map.remove r.files f;

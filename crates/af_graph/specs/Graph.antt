@@ -85,13 +85,12 @@ file_text w lost f x = node_text w lost f x ++ peer_of f x
 
 -- ---- what waits at files
 
--- A file that travels with a message: an edge with the user who is charged for it (unix(7),
--- SCM_RIGHTS).
+-- A file attached to a message: an edge with the user who is charged for it (unix(7), SCM_RIGHTS).
 abbrev pub attached_text : ℕ → ℕ → ℕ → List ℕ
 attached_text f user g = edge_text f g
     (codes " [color=blue, label=\"user " ++ (decimal user ++ codes "\"]\n"))
 
--- All files that travel with a message.
+-- All files attached to a message.
 abbrev pub message_text : ℕ → Message → List ℕ
 message_text f m = flat_map (attached_text f m.user) m.attached
 

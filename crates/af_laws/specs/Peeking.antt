@@ -9,14 +9,14 @@ use Rattle.af_base.specs.Counts.{charged, inflight}
 use Rattle.af_base.specs.Unheld.{IsSettled}
 use Rattle.af_base.specs.Steps.{ProcessStep, taken_on}
 
--- A peek leaves every queue as it is, with all that travels in it, whatever the answer (recvmsg(2),
+-- A peek leaves every queue as it is, with all its files, whatever the answer (recvmsg(2),
 -- MSG_PEEK).
 abbrev pub PeekChangesNoQueue : Type 0
 PeekChangesNoQueue = (old new : World) (p n max_bytes max_fds : ℕ) (r : Reply) → IsSettled old
     → ProcessStep old p (step.Peek n max_bytes max_fds) r new
     → (s : ℕ) → queue_at new s ≡ queue_at old s
 
--- It charges nobody and frees nobody of a charge.
+-- A peek changes no user's charge.
 abbrev pub PeekChangesNoCharge : Type 0
 PeekChangesNoCharge = (old new : World) (p n max_bytes max_fds : ℕ) (r : Reply) → IsSettled old
     → ProcessStep old p (step.Peek n max_bytes max_fds) r new

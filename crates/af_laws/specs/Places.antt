@@ -57,7 +57,7 @@ abbrev pub ForkCounts : Type 0
 ForkCounts = (w : World) (f : ℕ) (q : Process) → IsWhole w
     → refs (add_process w q) f ≡ refs w f + total_of (one f) q.table
 
--- A process that is gone is as many references less to a file as its table had numbers for it
+-- An exit takes from a file as many references as the process's table had numbers for it
 -- (_exit(2)).
 abbrev pub ExitCounts : Type 0
 ExitCounts = (w : World) (p f : ℕ) (q : Process) → map.get w.processes p ≡ Some q

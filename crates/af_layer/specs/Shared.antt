@@ -1,4 +1,4 @@
--- The reports about a call under a lock. Definitions that name no manual page are this project's
+-- What can be said of a call under a lock. Definitions that name no manual page are this project's
 -- own.
 use Rattle.std.specs.Prelude.{ℕ, Result, Ok, Err}
 use Rattle.af_base.specs.declared.errno.Errno.{Errno}

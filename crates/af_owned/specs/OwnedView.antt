@@ -6,8 +6,8 @@ use Rattle.af_base.specs.Pass.{Machine}
 use Rattle.af_base.specs.Told.{was_given}
 use Rattle.af_base.specs.World.{AsSocket, File, Map, Plain, World, is_live}
 
--- The machine, and by its number what each plain file carries that is live, or was freed and whose
--- value was not handed back yet.
+-- The machine, and by inode number the values of the plain files that are live, or were freed
+-- without their value being handed back yet.
 pub record OwnedView (T : Type 0) : Type 0 where
   pub machine : Machine
   pub values : Map T
@@ -26,8 +26,8 @@ abbrev pub AreCarried : {T : Type 0} → World → Map T → Type 0
 AreCarried w values = (f : ℕ) (socket : Bool) → kind w f ≡ Some socket
     → map.contains_key values f ≡ not socket
 
--- Freed files are reported; a file that carries a value was live when the lists were last emptied,
--- or was made since, so that it is live or in the list.
+-- Freed files are listed; a file that carries a value was live when the lists were last emptied, or
+-- was made since, so that it is live or in the list.
 pub record AreOwned {T : Type 0} (m : Machine) (values : Map T) (last : ℕ) : Type 0 where
   pub asked : m.since.released ≡ true
   pub later : m.since.next ≤ m.world.next_ino
@@ -36,8 +36,7 @@ pub record AreOwned {T : Type 0} (m : Machine) (values : Map T) (last : ℕ) : T
   pub given : (f : ℕ) → IsTrue (map.contains_key values f) → was_given m.since m.world.next_ino f ≡ true
   pub carried : AreCarried m.world values
 
--- The value of a file that no place holds any longer is handed back: it leaves the map, and all
--- else stays.
+-- The value of a file that is not live is handed back: it leaves the map, and all else stays.
 abbrev pub HandsBack : {T : Type 0} → OwnedView T → T → OwnedView T → Type 0
 HandsBack old v new = (f : ℕ) × (map.get old.values f ≡ Some v)
     × (is_live old.machine.world f ≡ false)
