@@ -40,14 +40,17 @@ left_none : (k len : ℕ) (s : ℕ → Bool) → ((q : ℕ) → k ≤ q → q < 
 left_none k len s h = left_past len k len s h (omega arith) ∙ (let no : len - len ≡ 0 = omega arith in ap (λ m. left (k + len) m s) no)
 
 module _ (p : Process) (words slots : List ℕ) (e : p.table ≡ table_of words slots) (m : ℕ) (len : m ≡ length slots) (none : NoneFrom m words) where
+  -- A number is open exactly if its bit is set.
   open_if_marked : (q : ℕ) → map.contains_key p.table q ≡ is_taken words q
   open_if_marked q = ap (λ m. is_some (map.get m q)) e ∙ open_as_marked words slots m q len none
 
+  -- The first number from k on whose bit is clear is the first free one.
   pub free_some : (k n : ℕ) → k ≤ n → n < p.limit → is_taken words n ≡ false → ((q : ℕ) → k ≤ q → q < n → is_taken words q ≡ true) → free_from k p ≡ n ∷ free_from (n + 1) p
   unfolding free_from
   free_some k n le lt free below =
       left_first k n (p.limit - (n + 1)) (p.limit - k) (map.contains_key p.table) le (omega arith) (open_if_marked n ∙ free) (λ q low high. open_if_marked q ∙ below q low high)
 
+  -- Where all bits from k up to the limit are set, no number from k on is free.
   pub free_none : (k : ℕ) → ((q : ℕ) → k ≤ q → q < p.limit → is_taken words q ≡ true) → free_from k p ≡ []
   unfolding free_from
   free_none k taken = left_none k (p.limit - k) (map.contains_key p.table) (λ q low high. open_if_marked q ∙ taken q low (omega arith))

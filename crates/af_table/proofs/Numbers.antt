@@ -34,6 +34,7 @@ module _ (words : List ℕ) where
     by true rest = ap (λ m. finmap.insert m k f) rest
     by false rest = rest
 
+  -- All these numbers are above each number below k.
   taken_above : (fs : List ℕ) (k j : ℕ) → j < k → AllByRecursion (λ y. nat_cmp j y ≡ Less) (keys_of (taken_from k fs))
   taken_above [] k j low = tt
   taken_above (f ∷ fs) k j low = by (is_taken words k) (taken_above fs (k + 1) j (omega arith)) where
@@ -41,6 +42,7 @@ module _ (words : List ℕ) where
     by true rest = (sym (nat_cmp_is j k Less low), rest)
     by false rest = rest
 
+  -- They rise.
   taken_sorted : (fs : List ℕ) (k : ℕ) → IsStrictlySortedBy nat_cmp (keys_of (taken_from k fs))
   unfolding IsStrictlySortedBy
   taken_sorted [] k = tt
@@ -49,6 +51,7 @@ module _ (words : List ℕ) where
     by true rest = (taken_above fs (k + 1) k (omega arith), rest)
     by false rest = rest
 
+  -- There are at most as many of them as slots.
   taken-le : (fs : List ℕ) (k : ℕ) → length (taken_from k fs) ≤ length fs
   taken-le [] k = omega arith
   taken-le (f ∷ fs) k = by (is_taken words k) (taken-le fs (k + 1)) where
@@ -58,6 +61,7 @@ module _ (words : List ℕ) where
 
 -- A list whose items are the numbers whose bit is set.
 module _ {A : Type 0} (key value : A → ℕ) (xs : List A) (words slots : List ℕ) (n : ℕ) (end : length slots ≤ n) (so_far : map (entry key value) xs ++ taken_from words n (drop n slots) ≡ taken_from words 0 slots) where
+  -- It has all of them.
   all_taken : map (entry key value) xs ≡ taken_from words 0 slots
   all_taken = sym (append-nil _) ∙ ap (λ ys. map (entry key value) xs ++ taken_from words n ys) (sym (drop_all n slots end)) ∙ so_far
 

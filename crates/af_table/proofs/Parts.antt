@@ -23,24 +23,29 @@ abbrev part_of : {X Y : Type 0} → (X → Y) → List (ℕ × X) → Map Y
 part_of f es = keyed (λ e. e.0) (λ e. f e.1) es
 
 module _ {X Y : Type 0} (f : X → Y) where
+  -- A part of a value that was put in is put in.
   mapped : (b : Bool) (v : X) (o : Option X) → option_map f (cond b (Some v) o) ≡ cond b (Some (f v)) (option_map f o)
   mapped true v o = refl
   mapped false v o = refl
 
+  -- A part of a value that was taken out is taken out.
   without : (b : Bool) (o : Option X) → option_map f (cond b None o) ≡ cond b None (option_map f o)
   without true o = refl
   without false o = refl
 
+  -- The part at a key is that of the entry with the key.
   part_at : (es : List (ℕ × X)) (q : ℕ) → map.get (part_of f es) q ≡ option_map f (lookup (nat_eq q) es)
   part_at [] q = get-empty nat_cmp q
   part_at (e ∷ es) q =
       get-insert nat_cmp_total (part_of f es) e.0 (f e.1) q ∙ (λ i. cond (unsigned_tied q e.0 i) (Some (f e.1)) (part_at es q i))
       ∙ sym (mapped (nat_eq q e.0) e.1 (lookup (nat_eq q) es))
 
+  -- A key that no entry has finds nothing.
   not_among : (k : ℕ) (es : List (ℕ × X)) → AllByRecursion (λ y. nat_eq k y ≡ false) (keys_of es) → lookup (nat_eq k) es ≡ None
   not_among k [] h = refl
   not_among k (e ∷ es) h = ap (λ b. cond b (Some e.1) (lookup (nat_eq k) es)) h.0 ∙ not_among k es h.1
 
+  -- There are as many parts as entries, where no key occurs twice.
   part_of_len : (es : List (ℕ × X)) → IsDistinct nat_eq (keys_of es) → map.len (part_of f es) ≡ length es
   unfolding IsDistinct
   part_of_len [] h = len-empty nat_cmp Y
@@ -92,57 +97,71 @@ module _ {S : Type 0} where
   unfolding processes_of
   process_at_key m q = part_at (λ h. h.process) m.entries q
 
+  -- A known pid has its entry's process.
   pub processes_there : (m : HashMap ℕ ProcessView S) (k : ℕ) (h : ProcessView) → Some h ≡ hash.get nat_eq m k → map.get (processes_of m.entries) k ≡ Some h.process
   unfolding processes_of
   processes_there m k h was = part_at (λ h. h.process) m.entries k ∙ ap (option_map (λ h. h.process)) (sym was)
 
+  -- It has its entry's row.
   pub rows_there : (m : HashMap ℕ ProcessView S) (k : ℕ) (h : ProcessView) → Some h ≡ hash.get nat_eq m k → map.get (rows_of m.entries) k ≡ Some h.row
   unfolding rows_of
   rows_there m k h was = part_at (λ h. h.row) m.entries k ∙ ap (option_map (λ h. h.row)) (sym was)
 
+  -- An unknown pid has no process.
   pub processes_none : (m : HashMap ℕ ProcessView S) (k : ℕ) → hash.get nat_eq m k ≡ None → map.get (processes_of m.entries) k ≡ None
   unfolding processes_of
   processes_none m k was = part_at (λ h. h.process) m.entries k ∙ ap (option_map (λ h. h.process)) was
 
+  -- It has no row.
   pub rows_none : (m : HashMap ℕ ProcessView S) (k : ℕ) → hash.get nat_eq m k ≡ None → map.get (rows_of m.entries) k ≡ None
   unfolding rows_of
   rows_none m k was = part_at (λ h. h.row) m.entries k ∙ ap (option_map (λ h. h.row)) was
 
+  -- An entry put in puts its process in.
   pub processes_inserted : (m n : HashMap ℕ ProcessView S) (k : ℕ) (v : ProcessView) → hash.Updates nat_eq m n k (Some v) → processes_of n.entries ≡ map.insert (processes_of m.entries) k v.process
   unfolding processes_of
   processes_inserted m n k v h = part_inserted (λ h. h.process) m n k v h
 
+  -- It puts its row in.
   pub rows_inserted : (m n : HashMap ℕ ProcessView S) (k : ℕ) (v : ProcessView) → hash.Updates nat_eq m n k (Some v) → rows_of n.entries ≡ map.insert (rows_of m.entries) k v.row
   unfolding rows_of
   rows_inserted m n k v h = part_inserted (λ h. h.row) m n k v h
 
+  -- An entry taken out takes its process out.
   pub processes_removed : (m n : HashMap ℕ ProcessView S) (k : ℕ) → hash.Updates nat_eq m n k None → processes_of n.entries ≡ map.remove (processes_of m.entries) k
   unfolding processes_of
   processes_removed m n k h = part_removed (λ h. h.process) m n k h
 
+  -- It takes its row out.
   pub rows_removed : (m n : HashMap ℕ ProcessView S) (k : ℕ) → hash.Updates nat_eq m n k None → rows_of n.entries ≡ map.remove (rows_of m.entries) k
   unfolding rows_of
   rows_removed m n k h = part_removed (λ h. h.row) m n k h
 
+  -- To remove an unknown pid changes no process.
   pub processes_absent : (m : HashMap ℕ ProcessView S) (k : ℕ) → hash.get nat_eq m k ≡ None → processes_of m.entries ≡ map.remove (processes_of m.entries) k
   processes_absent m k was = sym (remove-none (processes_of m.entries) k (processes_none m k was))
 
+  -- It changes no row.
   pub rows_absent : (m : HashMap ℕ ProcessView S) (k : ℕ) → hash.get nat_eq m k ≡ None → rows_of m.entries ≡ map.remove (rows_of m.entries) k
   rows_absent m k was = sym (remove-none (rows_of m.entries) k (rows_none m k was))
 
+  -- An entry whose process is changed changes the process at its pid.
   pub processes_changed : (g : Process → Process) (m n : HashMap ℕ ProcessView S) (k : ℕ) (x v : ProcessView) → Some x ≡ hash.get nat_eq m k → v ≡ record x { process = g x.process } → hash.Updates nat_eq m n k (Some v)
       → processes_of n.entries ≡ change_at g (processes_of m.entries) k
   unfolding processes_of
   processes_changed g m n k x v was e h = part_changed (λ h. h.process) g m n k x v was (ap (λ y. y.process) e) h
 
+  -- An entry that keeps its row changes no row.
   pub rows_kept : (m n : HashMap ℕ ProcessView S) (k : ℕ) (x v : ProcessView) → Some x ≡ hash.get nat_eq m k → v.row ≡ x.row → hash.Updates nat_eq m n k (Some v) → rows_of n.entries ≡ rows_of m.entries
   unfolding rows_of
   rows_kept m n k x v was e h = part_kept (λ h. h.row) m n k x v was e h
 
+  -- A change at an unknown pid changes no process.
   pub processes_unchanged : (g : Process → Process) (m : HashMap ℕ ProcessView S) (k : ℕ) → hash.get nat_eq m k ≡ None → processes_of m.entries ≡ change_at g (processes_of m.entries) k
   unfolding processes_of
   processes_unchanged g m k was = part_unchanged (λ h. h.process) g m k was
 
+  -- An entry that keeps its process changes no process.
   pub processes_kept : (m n : HashMap ℕ ProcessView S) (k : ℕ) (x v : ProcessView) → Some x ≡ hash.get nat_eq m k → v.process ≡ x.process → hash.Updates nat_eq m n k (Some v) → processes_of n.entries ≡ processes_of m.entries
   unfolding processes_of
   processes_kept m n k x v was e h = part_kept (λ h. h.process) m n k x v was e h
@@ -151,7 +170,7 @@ module _ {S : Type 0} where
   pub row_made : (m n : HashMap ℕ ProcessView S) (k : ℕ) (v : ProcessView) → hash.Updates nat_eq m n k (Some v) → map.get (rows_of n.entries) k ≡ Some v.row
   row_made m n k v h = rows_there n k v (sym h.1)
 
-  -- And the others.
+  -- No row gets shorter.
   pub rows_grown : (m n : HashMap ℕ ProcessView S) (k : ℕ) (x v : ProcessView) → Some x ≡ hash.get nat_eq m k → x.row ≤ v.row → hash.Updates nat_eq m n k (Some v)
       → (q : ℕ) → unwrap_or (map.get (rows_of m.entries) q) 0 ≤ unwrap_or (map.get (rows_of n.entries) q) 0
   unfolding rows_of

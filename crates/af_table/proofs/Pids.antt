@@ -25,6 +25,7 @@ module _ {Y : Type 0} where
   abbrev with_value : (ℕ → Y) → List ℕ → List (ℕ × Y)
   with_value d ks = map (λ k. (k, d k)) ks
 
+  -- A number is found among these with its value, exactly if it is one of them.
   found : (d : ℕ → Y) (ks : List ℕ) (q : ℕ) → finmap.find nat_cmp q (with_value d ks) ≡ cond (list_any (nat_eq q) ks) (Some (d q)) None
   found d [] q = refl
   found d (k ∷ ks) q = (λ i. cond (unsigned_tied q k i) (Some (d k)) (found d ks q i)) ∙ by (nat_eq q k) refl where
@@ -32,10 +33,12 @@ module _ {Y : Type 0} where
     by true e = ap (λ j. Some (d j)) (sym (eqb-true q k e))
     by false e = refl
 
+  -- The numbers of these pairs are the numbers.
   keys_back : (d : ℕ → Y) (ks : List ℕ) → map (λ e. e.0) (with_value d ks) ≡ ks
   keys_back d [] = refl
   keys_back d (k ∷ ks) = ap (λ js. k ∷ js) (keys_back d ks)
 
+  -- A value that is there is itself.
   told : (o : Option Y) (y : Y) → cond (is_some o) (Some (unwrap_or o y)) None ≡ o
   told None y = refl
   told (Some x) y = refl
@@ -64,12 +67,15 @@ has_value f (Some x) = refl
 
 -- A sort of the keys of the hash map.
 module _ {S : Type 0} (m : HashMap ℕ ProcessView S) (js ks : List ℕ) (unique : hash.IsUnique nat_eq m) (keys : hash.keys m ≡ js) (moved : IsPermutation js ks) (sorted : IsSorted nat_cmp ks) where
+  -- The sorted list is a permutation of the keys.
   from_keys : IsPermutation (hash.keys m) ks
   from_keys = subst (λ l. IsPermutation l ks) (sym keys) moved
 
+  -- Its pids rise.
   pub pids_rise : IsStrictlyIncreasing ks
   pids_rise = IsStrictlyIncreasing-from_distinct ks (IsNonDecreasingBy-from_sort (λ k. k) ks sorted) (IsDistinct-IsPermutation nat_eq nat_eq_equiv.symm (hash.keys m) ks from_keys unique)
 
+  -- They are the pids of the processes, in order.
   pub pids_are : ks ≡ finmap.keys (processes_of m.entries)
   pids_are = keys_are (processes_of m.entries) no_process ks pids_rise (λ q.
       sym (list_any-IsPermutation (nat_eq q) (hash.keys m) ks from_keys) ∙ sym (ap is_some (process_at_key m q) ∙ has_value _ (hash.get nat_eq m q) ∙ has_key m.entries q))

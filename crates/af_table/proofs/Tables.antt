@@ -78,10 +78,12 @@ module _ (ws : List ℕ) where
     by true = insert-other (table_from ws (k + 1) fs) k f q (told_apart q k (λ same. omega arith))
     by false = refl
 
+  -- A number has its slot's file exactly if its bit is set.
   pub table_at : (fs : List ℕ) (q : ℕ) → map.get (table_of ws fs) q ≡ cond (is_taken ws q) (slice_get fs q) None
   unfolding table_of
   table_at fs q = from_at fs 0 q q (omega arith)
 
+  -- A map with the same entries is the table.
   same_table : (fs : List ℕ) (m : map.FinMap nat_cmp ℕ) → ((q : ℕ) → cond (is_taken ws q) (slice_get fs q) None ≡ map.get m q) → table_of ws fs ≡ m
   same_table fs m h = same_map nat_cmp_total nat_cmp-IsAntisymmetric _ _ (λ q. table_at fs q ∙ h q)
 
