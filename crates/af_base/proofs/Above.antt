@@ -14,5 +14,6 @@ is_there : {A : Type 0} (o : Option A) (a : A) → o ≡ Some a → IsTrue (is_s
 is_there o a e = subst (λ o. IsTrue (is_some o)) (sym e) (search rules)
 
 module _ {X : Type 0} (m : BTreeMap ℕ X) (r : List (ℕ × X)) (f : ℕ) (in_range : IsRangeOf nat_cmp (Excluded f) Unbounded m r) where
+  -- A key that the tree does not find is not in its map.
   absent : (q : ℕ) → tree.get nat_cmp m q ≡ None → map.contains_key (map.from_entries {R = nat_cmp} m.entries) q ≡ false
   absent q none = ap is_some (nat_looked m q ∙ none)

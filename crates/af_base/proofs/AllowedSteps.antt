@@ -42,6 +42,7 @@ get-change_at {X = X} g m k q = by (map.get m k) refl (nat_cmp q k) refl where
 
 -- A socket changed in no queue and no backlog.
 module _ (w : World) (s : ℕ) (g : Socket → Socket) (same : (x : Socket) → contents (AsSocket (g x)) ≡ contents (AsSocket x)) where
+  -- Each file holds what it held.
   pub held-with_socket : (q : ℕ) → held_by (with_socket w s g) q ≡ held_by w q
   held-with_socket q = ap (λ o. option_map_or contents o []) (get-change_at (file_with g) w.files s q) ∙ each (eq_by_cmp nat_cmp q s) (map.get w.files q) where
     each : (b : Bool) (o : Option File) → option_map_or contents (option_map (λ x. cond b (file_with g x) x) o) [] ≡ option_map_or contents o []

@@ -98,6 +98,7 @@ module _ (w : World) where
   reached-from_bare _ (ByTable f t) = ByTable f (t.0, t.1, sym (table_at-bare t.0 t.1) ∙ t.2)
   reached-from_bare _ (BySocket s f r h) = BySocket s f (reached-from_bare s r) (subst (λ xs. Contains xs f) (held-bare s) h)
 
+  -- A reachable file is reachable in the bare world.
   reached-to_bare : (f : ℕ) → Reached w f → Reached (bare w) f
   reached-to_bare _ (ByTable f t) = ByTable f (t.0, t.1, table_at-bare t.0 t.1 ∙ t.2)
   reached-to_bare _ (BySocket s f r h) = BySocket s f (reached-to_bare s r) (subst (λ xs. Contains xs f) (sym (held-bare s)) h)

@@ -165,25 +165,32 @@ module _ (w : World) (c : ℕ) (kind : SockType) (client : Socket) (k : IsWhole 
   abbrev made : World
   made = with_socket base c (connected n)
 
+  -- The client is live.
   client_live : IsLive w c
   client_live = ap is_some client_there
 
+  -- It is there after the embryo is made.
   client_in_base : map.get base.files c ≡ Some (AsSocket client)
   client_in_base = still-blank w (AsSocket embryo) (blank-connected kind c) k c client_live ∙ client_there
 
+  -- The client is connected to the embryo.
   state_client : state_at made c ≡ state.Connected n
   state_client = state-there made c (AsSocket (connected n client)) (there-changed base c (connected n) client client_in_base)
 
+  -- The embryo is connected to the client.
   state_embryo : state_at made n ≡ state.Connected c
   state_embryo = state-others base c (connected n) n (told_apart n c (λ e. let low = k.files_numbered c client_live in omega (arith, e, low)))
       ∙ state-there base n (AsSocket embryo) (blank-there w (AsSocket embryo) (blank-connected kind c))
 
+  -- Every other file has the state that it had.
   state_other : (q : ℕ) → nat_eq q c ≡ false → nat_eq q n ≡ false → state_at made q ≡ state_at w q
   state_other q off_client off_embryo = state-others base c (connected n) q off_client ∙ ap (λ o. option_map_or state_of o state.Idle) (insert-other w.files n (AsSocket embryo) q off_embryo)
 
+  -- The client had no peer.
   client_alone : has_peer (state_at w c) ≡ false
   client_alone = ap has_peer (state-there w c (AsSocket client) client_there ∙ idle)
 
+  -- The embryo's number had no peer.
   embryo_alone : has_peer (state_at w n) ≡ false
   embryo_alone = ap (λ o. has_peer (option_map_or state_of o state.Idle)) (fresh_file w n k (omega arith))
 
@@ -208,6 +215,7 @@ module _ (w : World) (c : ℕ) (kind : SockType) (client : Socket) (k : IsWhole 
   live_base : (f : ℕ) → is_live made f ≡ is_live base f
   live_base f = live-changed base c (connected n) f
 
+  -- A file that was live is live afterwards.
   live_before : (f : ℕ) → IsLive w f → IsLive made f
   live_before f live = live_base f ∙ live-blank w (AsSocket embryo) (blank-connected kind c) k f live
 
@@ -269,6 +277,7 @@ module _ (w : World) (c l : ℕ) (kind : SockType) (client listener : Socket) (k
   abbrev before : World
   before = with_socket (add_file w (AsSocket (connected_socket kind c))) c (connected w.next_ino)
 
+  -- The listener is as it was.
   listener_before : map.get before.files l ≡ Some (AsSocket listener)
   listener_before = still-made w c kind client k client_there idle l apart (ap is_some listener_there) ∙ listener_there
 

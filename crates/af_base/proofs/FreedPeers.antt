@@ -16,6 +16,7 @@ use Rattle.af_base.specs.Whole.{AreMutual, state_at, state_of}
 use Rattle.af_base.proofs.SettledWorlds.{get-without}
 use Rattle.af_base.proofs.AllowedSteps.{get-change_at}
 
+-- A socket whose peer was freed; a plain file stays as it is.
 abbrev pub hang_up : File → File
 hang_up x = file_with (λ s. record s { state = state.HungUp }) x
 
@@ -26,6 +27,7 @@ drop_with state.Idle f m = map.remove m f
 drop_with (state.Listening b) f m = map.remove m f
 drop_with state.HungUp f m = map.remove m f
 
+-- Whether q is the peer in this state.
 abbrev pub is_peer : State → ℕ → Bool
 is_peer (state.Connected p) q = eq_by_cmp nat_cmp q p
 is_peer state.Idle q = false
@@ -71,6 +73,7 @@ module _ (w : World) (f : ℕ) (pairs : AreMutual w) where
     by state.HungUp r = refl
     by (state.Connected p) r = apart p r (nat_eq f p) refl
 
+  -- To free one file removes it and hangs up its peer.
   pub without_one : without (nat_eq f) w ≡ record w { files = drop_with (state_at w f) f w.files }
   without_one = ap (λ fs. record w { files = fs }) (map.same_map nat_cmp_total nat_cmp-IsAntisymmetric _ _ (λ q.
       get-without (nat_eq f) w q ∙ each q (map.get w.files q) refl (nat_eq f q) refl ∙ sym (get-drop_with (state_at w f) f w.files q))) where

@@ -45,9 +45,11 @@ held-dequeued w s q f h = elim (held-changed {A = ⊥} w s dequeued q f (λ x is
 
 -- After a receive, a held file was held.
 module _ (w : World) (s n : ℕ) (x : Socket) (at : map.get w.files s ≡ Some (AsSocket x)) where
+  -- What the receive leaves in the queue.
   abbrev rest : List Message
   rest = (take_from x.kind x.queue n).rest
 
+  -- Each held file was held by the same socket.
   pub held-taken : (q f : ℕ) → Holds (with_queue w s rest) q f → Holds w q f
   held-taken q f h = elim (held-changed {A = ⊥} w s (λ y. record y { queue = rest }) q f (λ y is d. inl (gain y is d)) h) [ inl y ↦ y | inr y ↦ absurd y ] where
     gain : (y : Socket) → map.get w.files s ≡ Some (AsSocket y) → Contains (attached_in rest ++ y.backlog) f → Contains (attached_in y.queue ++ y.backlog) f

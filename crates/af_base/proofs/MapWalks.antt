@@ -35,6 +35,7 @@ module _ {X : Type 0} where
   AreAbove k [] = Unit {0}
   AreAbove k (e ∷ es) = (k < e.0) × AreAbove k es
 
+  -- The entries behind one whose key is below all theirs are above it.
   are_above : (k : ℕ) (es : List (ℕ × X)) → T (below_all nat_cmp k es) → AreAbove k es
   are_above k [] h = tt
   are_above k (e ∷ es) h = (less k e.0 (nat_cmp k e.0) refl (first _ _ h), are_above k es (second _ _ h))
@@ -61,6 +62,7 @@ module _ {X : Type 0} where
   not_absent : (e : ℕ × X) (es : List (ℕ × X)) → is_some (find nat_cmp e.0 (e ∷ es)) ≡ false → ⊥
   not_absent e es none = false≢true (sym none ∙ ap is_some (here e es))
 
+  -- If n is the least key above a number, the entries above it begin with n's.
   next_in : (es : List (ℕ × X)) → T (is_sorted nat_cmp es) → (last n : ℕ) (x : X) → last < n → find nat_cmp n es ≡ Some x → ((q : ℕ) → last < q → q < n → is_some (find nat_cmp q es) ≡ false) → above last es ≡ (n, x) ∷ above n es
   next_in [] s last n x lt at least = absurd (none_some x at)
   next_in (e ∷ es) s last n x lt at least = elim (cases_order e.0 n) [
@@ -84,6 +86,7 @@ module _ {X : Type 0} where
     rest : AreAbove e.0 es
     rest = are_above e.0 es (first _ _ s)
 
+  -- If no key is above a number, no entry is.
   none_in : (es : List (ℕ × X)) (last : ℕ) → ((q : ℕ) → last < q → is_some (find nat_cmp q es) ≡ false) → above last es ≡ []
   none_in [] last none = refl
   none_in (e ∷ es) last none = elim (cases_lt last e.0) [
@@ -91,6 +94,7 @@ module _ {X : Type 0} where
     | inr le ↦ passed last e es le ∙ none_in es last (λ q over. sym (ap is_some (later q e es (λ d. omega (arith, d, over, le)))) ∙ none q over)
   ]
 
+  -- If 0 is no key, all entries are above 0.
   all_in : (es : List (ℕ × X)) → T (is_sorted nat_cmp es) → is_some (find nat_cmp 0 es) ≡ false → above 0 es ≡ es
   all_in [] s none = refl
   all_in (e ∷ es) s none = elim (cases_lt 0 e.0) [

@@ -61,10 +61,12 @@ less Equal p = absurd p
 less Greater p = absurd p
 
 module _ {X : Type 0} where
+  -- A key below all others is not found among them.
   pub none_below : (k : ℕ) (es : List (ℕ × X)) → T (below_all nat_cmp k es) → find nat_cmp k es ≡ None
   none_below k [] h = refl
   none_below k (d ∷ es) h = ap (λ r. cond (is_eq r) (Some d.1) (find nat_cmp k es)) (less _ (first _ _ h)) ∙ none_below k es (second _ _ h)
 
+  -- Nothing is no value.
   none_some : (x : X) → None ≡ Some x → ⊥
   none_some x e = false≢true (ap (λ o. option_map_or (λ _. true) o false) e)
 
@@ -74,9 +76,11 @@ module _ {X : Type 0} where
   later e es k x h is Less p = is
   later e es k x h is Greater p = is
 
+  -- The first entry is found by its key.
   pub here : (e : ℕ × X) (es : List (ℕ × X)) → find nat_cmp e.0 (e ∷ es) ≡ Some e.1
   here e es = ap (λ o. cond (is_eq o) (Some e.1) (find nat_cmp e.0 es)) (tied_itself nat_cmp_total e.0)
 
+  -- A sum of entries that is not zero has a term that is not.
   found : (F : X → ℕ) (es : List (ℕ × X)) → T (is_sorted nat_cmp es) → 0 < sum_by (λ e. F e.1) es → (k : ℕ) × (x : X) × (find nat_cmp k es ≡ Some x) × (0 < F x)
   found F [] s h = absurd (omega (arith, h))
   found F (e ∷ es) s h = elim (cases_lt 0 (F e.1)) [

@@ -73,9 +73,11 @@ emptied-emptied t u w = ap (λ fs. record w { files = fs }) (map.same_map nat_cm
       each false b (Some x) = refl
 
 module _ (t u : ℕ → Bool) (w v z : World) (first : Purges t w v) (second : Purges u v z) where
+  -- The files of either part.
   abbrev both : ℕ → Bool
   both f = t f || u f
 
+  -- The world in which both are emptied.
   abbrev all : World
   all = emptied both w
 
@@ -89,17 +91,21 @@ module _ (t u : ℕ → Bool) (w v z : World) (first : Purges t w v) (second : P
   live_v : (f : ℕ) → is_live v f ≡ cond (not (first.0 f)) (is_live w f) false
   live_v f = ap (λ x. is_live x f) first.2 ∙ live-without first.0 (emptied t w) f ∙ ap (λ b. cond (not (first.0 f)) b false) (live-emptied t w f)
 
+  -- A socket of v is not of the first part, and held in w what it holds in v.
   in_v : (s f : ℕ) → Holds v s f → (first.0 s ≡ false) × ((t s ≡ false) × Holds w s f)
   in_v s f h =
       let one = from_without first.0 (emptied t w) s f (subst (λ x. Holds x s f) first.2 h) in
       (one.0, from_emptied t w s f one.1)
 
+  -- A socket that is not of the first part holds in v what it held in w.
   to_v : (s f : ℕ) → first.0 s ≡ false → t s ≡ false → Holds w s f → Holds v s f
   to_v s f e d h = subst (λ x. Holds x s f) (sym first.2) (to_without first.0 (emptied t w) s f e (to_emptied t w s f d h))
 
+  -- A file in a table of v is in one of w.
   tables_v : (f : ℕ) → InTable v f → InTable w f
   tables_v f h = subst (λ x. InTable x f) first.2 h
 
+  -- A file in a table of w is in one of v.
   to_tables_v : (f : ℕ) → InTable w f → InTable v f
   to_tables_v f h = subst (λ x. InTable x f) (sym first.2) h
 
@@ -129,6 +135,7 @@ module _ (t u : ℕ → Bool) (w v z : World) (first : Purges t w v) (second : P
             ]))
       ]
 
+  -- To purge the first part and then the second purges both.
   pub purges_both : Purges both w z
   purges_both =
       let gone : ℕ → Bool = λ f. first.0 f || second.0 f in

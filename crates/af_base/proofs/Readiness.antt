@@ -191,6 +191,7 @@ tells-changed w since told whole h asked f socket none peers =
 -- Where the faces of all that were left alone stay, they are ready for what they were.
 module _ (old new : World) (whole : IsWhole old) (these : List ℕ)
     (same : (f : ℕ) → f < old.next_ino → IsLive new f → ¬ (Contains these f) → ((q : ℕ) → state_at old f ≡ state.Connected q → IsLive new q) → face_at new f ≡ face_at old f) where
+  -- A file that was left alone is ready for what it was.
   left-ready : (f : ℕ) → IsLive old f → IsLive new f → IsLeftAlone old new these f → ready new f ≡ ready old f
   left-ready f was is alone = same-ready new old f (same f (whole.files_numbered f was) is alone.untouched alone.peer_there) peers where
     peers : (q : ℕ) → state_at old f ≡ state.Connected q → face_at new q ≡ face_at old q

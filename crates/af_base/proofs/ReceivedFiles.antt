@@ -29,6 +29,7 @@ no_files [] e = refl
 no_files (x ∷ xs) e = absurd (let h = ltb-false _ _ e in omega (arith, h))
 
 module _ (x : Message) (q : List Message) where
+  -- How many messages without files come first.
   plain : ℕ
   plain = prefix_len (λ m. not (has_files m)) q
 
@@ -44,12 +45,15 @@ module _ (x : Message) (q : List Message) where
   unfolding plain
   before-here e = ap (λ b. length (joined (take (cond (not b) (1 + plain) 0) (x ∷ q)))) e
 
+  -- Then the first message with files is a later one.
   pub find-later : has_files x ≡ false → find has_files (x ∷ q) ≡ find has_files q
   find-later e = ap (λ b. cond b (Some x) (find has_files q)) e
 
+  -- Then it is the first message with files.
   pub find-here : has_files x ≡ true → find has_files (x ∷ q) ≡ Some x
   find-here e = ap (λ b. cond b (Some x) (find has_files q)) e
 
+  -- A first message without files adds none to the queue's.
   carried-later : has_files x ≡ false → attached_in (x ∷ q) ≡ attached_in q
   carried-later e = ap (λ xs. xs ++ attached_in q) (no_files x.attached e)
 
@@ -83,6 +87,7 @@ carried_none (x ∷ q) e c = elim (cases_Bool (has_files x)) [
   by rest all false false = all
 
 module _ (x : Message) (q : List Message) (m : Message) (c : ℕ) (h : HaveBytes (x ∷ q)) where
+  -- The queue without its first c bytes, by two tests of the first message.
   abbrev left : Bool → Bool → List Message
   left a b = cond a (cut (c - length x.bytes) q) (cond b (record x { bytes = drop c x.bytes; attached = [] } ∷ q) (x ∷ q))
 
@@ -90,6 +95,7 @@ module _ (x : Message) (q : List Message) (m : Message) (c : ℕ) (h : HaveBytes
   abbrev Keeps : Bool → Bool → Type 0
   Keeps a b = (c ≤ before (x ∷ q) → attached_in (left a b) ≡ attached_in (x ∷ q)) × (before (x ∷ q) < c → c ≤ before (x ∷ q) + length m.bytes → m.attached ++ attached_in (left a b) ≡ attached_in (x ∷ q))
 
+  -- It is so where the first message has the files.
   here : has_files x ≡ true → x ≡ m → (a : Bool) → nat_le (length x.bytes) c ≡ a → (b : Bool) → nat_lt 0 c ≡ b → Keeps a b
   here t same true d b e =
       let past = leb-true _ _ d in
@@ -107,6 +113,7 @@ module _ (x : Message) (q : List Message) (m : Message) (c : ℕ) (h : HaveBytes
       let none = ltb-false 0 c e in
       (λ p. refl, λ p r. absurd (omega (arith, none, p)))
 
+  -- It is so where a later message has them.
   later : has_files x ≡ false → (c - length x.bytes ≤ before q → attached_in (cut (c - length x.bytes) q) ≡ attached_in q)
       × (before q < c - length x.bytes → c - length x.bytes ≤ before q + length m.bytes → m.attached ++ attached_in (cut (c - length x.bytes) q) ≡ attached_in q)
       → (a : Bool) → nat_le (length x.bytes) c ≡ a → (b : Bool) → nat_lt 0 c ≡ b → Keeps a b

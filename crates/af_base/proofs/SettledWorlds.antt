@@ -136,12 +136,15 @@ without-without g h w = ap (λ fs. record w { files = fs }) (map.same_map nat_cm
       each false false (Some x) = ap Some (file x)
 
 module _ (w : World) (f : ℕ) (live : IsTrue (is_live w f)) (no_table : ¬ (InTable w f)) (no_holder : (s : ℕ) → ¬ (Holds w s f)) where
+  -- The world without f.
   abbrev rest : World
   rest = without (nat_eq f) w
 
+  -- A live file without a place is unheld.
   pub first_goes : Unheld w f
   first_goes = Goes f live no_table (λ s h. absurd (no_holder s h))
 
+  -- Numbers that test equal are equal.
   same_of : (g : ℕ) → nat_eq f g ≡ true → f ≡ g
   same_of g e = eqb-true f g e
 
@@ -149,6 +152,7 @@ module _ (w : World) (f : ℕ) (live : IsTrue (is_live w f)) (no_table : ¬ (InT
   other : (s : ℕ) → nat_eq f s ≡ false → held_by rest s ≡ held_by w s
   other s e = held-without (nat_eq f) w s ∙ ap (λ b. cond (not b) (held_by w s) []) e
 
+  -- The file f holds nothing there.
   itself : (s : ℕ) → nat_eq f s ≡ true → held_by rest s ≡ []
   itself s e = held-without (nat_eq f) w s ∙ ap (λ b. cond (not b) (held_by w s) []) e
 

@@ -179,6 +179,7 @@ number-there w p n = by (table_at w p n) where
 
 -- A step that nothing refuses, of a process that is there.
 module _ (w : World) (p : ℕ) (whole : IsWhole w) (at : map.get w.processes p ≡ Some (process_at w p)) where
+  -- The process.
   abbrev q : Process
   q = process_at w p
 

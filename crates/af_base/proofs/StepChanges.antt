@@ -74,42 +74,52 @@ module _ {old w : World} (c : Changed old w) where
   sets : (s : ℕ) (g : Socket → Socket) → ((q f : ℕ) → Holds (with_socket w s g) q f → Holds w q f ⊎ IsKnown old f) → (Fits w → Fits (with_socket w s g)) → Changed old (with_socket w s g)
   sets s g gain fits = record { places = Sets w s g c.places gain; fits = λ k. fits (c.fits k) }
 
+  -- A descriptor is set to a known live file.
   pub changed-install : (p n f : ℕ) (q : Process) → map.get w.processes p ≡ Some q → n < q.limit → IsLive w f → IsKnown old f → Changed old (install w p n f)
   changed-install p n f q at low live known =
       tables (install w p n f).processes w.next_pid w.users (λ g t. elim (tabled-install w p n f g t) [ inl y ↦ inl y | inr y ↦ inr (subst (IsKnown old) y known) ])
       (λ k. (whole-install w p n f k.0 live, within-install w p n f k.1 (below-most w p n q k.1 at low)))
 
+  -- A descriptor is freed.
   pub changed-uninstall : (p n : ℕ) → Changed old (uninstall w p n)
   changed-uninstall p n = tables (uninstall w p n).processes w.next_pid w.users (λ f t. inl (tabled-uninstall w p n f t)) (λ k. (whole-uninstall w p n k.0, within-uninstall w p n k.1))
 
+  -- A process starts, whose files were in a table.
   pub changed-process : (q : Process) → is_at_process_limit w ≡ false → (IsWithin w → IsProcessWithin q) → ((n f : ℕ) → map.get q.table n ≡ Some f → InTable w f) → Changed old (add_process w q)
   changed-process q room fits had =
       tables (add_process w q).processes (w.next_pid + 1) w.users (λ f t. inl (tabled-more w q had f t)) (λ k. (whole-add_process w q k.0 (λ n f is. k.0.tables_live f (had n f is)), within-add_process w q k.1 room (fits k.1)))
 
+  -- A user is added.
   pub changed-user : (u : ℕ) → Changed old (add_user w u)
   changed-user u = record { places = by (list_any (nat_eq u) w.users); fits = λ k. let j = c.fits k in (whole-add_user w u j.0, within-add_user w u j.1) } where
     by : (b : Bool) → Places old (if b then w else record w { users = w.users ++ u ∷ [] })
     by true = c.places
     by false = Tables w w.processes w.next_pid (w.users ++ u ∷ []) c.places (λ f t. inl t)
 
+  -- A process ends.
   pub changed-exit : (p : ℕ) → Changed old (remove_process w p)
   changed-exit p = tables (remove_process w p).processes w.next_pid w.users (λ f t. inl (tabled-remove w p f t)) (λ k. (whole-remove_process w p k.0, within-remove_process w p k.1))
 
+  -- A limit is changed.
   pub changed-limit : (p n : ℕ) → n ≤ MAX_NOFILE → Changed old (set_limit w p n)
   changed-limit p n low = tables (set_limit w p n).processes w.next_pid w.users (λ f t. inl (tabled-limited w p n f t)) (λ k. (whole-limited w p n k.0, within-limited w p n k.1 low))
 
+  -- A plain file is made.
   pub changed-plain : is_full w 1 ≡ false → Changed old (add_file w Plain)
   changed-plain room = adds Plain blank-plain (λ k. (whole-plain w k.0, within-plain w k.1 room))
 
+  -- A socket is made.
   pub changed-socket : (kind : SockType) → is_full w 1 ≡ false → Changed old (add_file w (AsSocket (idle_socket kind)))
   changed-socket kind room = adds (AsSocket (idle_socket kind)) (blank-idle kind) (λ k. (whole-blank w (AsSocket (idle_socket kind)) (blank-idle kind) refl k.0, within-blank w (idle_socket kind) k.1 room refl refl refl refl))
 
+  -- Two connected sockets are made.
   pub changed-pair : (kind : SockType) → is_full w 2 ≡ false → Changed old (with_pair w kind)
   changed-pair kind room = record {
     places = Adds _ _ (Adds w _ c.places (blank-connected kind (w.next_ino + 1))) (blank-connected kind w.next_ino);
     fits = λ k. let j = c.fits k in (whole-pair w kind j.0, within-pair w kind j.1 room);
   }
 
+  -- A client is connected to an embryo, which waits at a listener.
   pub changed-embryo : (s l : ℕ) (kind : SockType) (x y : Socket) → map.get w.files s ≡ Some (AsSocket x) → x.state ≡ state.Idle → map.get w.files l ≡ Some (AsSocket y) → nat_eq l s ≡ false → is_full w 1 ≡ false → length y.backlog < room_of y.state → old.next_ino ≤ w.next_ino
       → Changed old (with_embryo w s l kind)
   changed-embryo s l kind x y there idle listens apart room waits low =
@@ -120,19 +130,24 @@ module _ {old w : World} (c : Changed old w) where
         fits = λ k. let j = c.fits k in (whole-embryo w s l kind x y j.0 there idle listens apart, within-embryo w s l kind x y j.0 there idle listens apart j.1 room waits);
       }
 
+  -- A socket gets a name.
   pub changed-name : (s : ℕ) (name : List ℕ) (x : Socket) → map.get w.files s ≡ Some (AsSocket x) → is_name name ≡ true → named w.files name ≡ None → Changed old (with_socket w s (with_name name))
   changed-name s name x at fits free = sets s (with_name name) (still-holds old w s (with_name name) (λ z. refl)) (λ k. (whole-bound w s name (named-none w name free) k.0, within-bound w s name x k.1 at fits))
 
+  -- A socket becomes a listener.
   pub changed-listen : (s b : ℕ) (x : Socket) → map.get w.files s ≡ Some (AsSocket x) → x.state ≡ state.Idle → 1 ≤ b → b ≤ MAX_BACKLOG → Changed old (with_socket w s (listening b))
   changed-listen s b x at idle some low = sets s (listening b) (still-holds old w s (listening b) (λ z. refl)) (λ k. (whole-listening w s b x at idle k.0, within-listening w s b x k.1 at idle some low))
 
+  -- The first embryo leaves a backlog.
   pub changed-accept : (s : ℕ) (x : Socket) → map.get w.files s ≡ Some (AsSocket x) → Changed old (with_socket w s dequeued)
   changed-accept s x at = sets s dequeued (λ q f h. inl (held-dequeued w s q f h)) (λ k. (whole-accepted w s x at k.0, within-accepted w s x k.1 at))
 
+  -- A message with known live files joins a queue.
   pub changed-push : (s : ℕ) (m : Message) (x : Socket) → map.get w.files s ≡ Some (AsSocket x) → ((f : ℕ) → Contains m.attached f → IsLive w f × IsKnown old f) → IsMessageWithin m → length x.queue < MAX_MESSAGES → total w + length m.attached ≤ MAX_INFLIGHT
       → Changed old (push_message w s m)
   changed-push s m x at known fits room few = sets s (pushed m) (λ q f h. elim (held-pushed w s m q f h) [ inl y ↦ inl y | inr y ↦ inr (known f y).1 ]) (λ k. (whole-push w s m k.0 (λ f h. (known f h).0), within-push w s m x k.1 at fits room few))
 
+  -- A receive takes its part of a queue.
   pub changed-take : (s n : ℕ) (x : Socket) → map.get w.files s ≡ Some (AsSocket x) → Changed old (with_queue w s (take_from x.kind x.queue n).rest)
   changed-take s n x at = sets s (λ y. record y { queue = (take_from x.kind x.queue n).rest }) (λ q f h. inl (held-taken w s n x at q f h)) (λ k.
       let left = leaves-taken x.kind x.queue n (k.1.sockets s x at).messages in

@@ -20,10 +20,12 @@ none [] e = refl
 none (x ∷ xs) e = absurd (omega arith)
 
 module _ {X : Type 0} where
+  -- An entry whose key is below all others is put first.
   put_least : (k : ℕ) (v : X) (es : List (ℕ × X)) → AllByRecursion (λ y. nat_cmp k y ≡ Less) (keys_of es) → put nat_cmp k v es ≡ (k, v) ∷ es
   put_least k v [] h = refl
   put_least k v (e ∷ es) h = ap (λ o. by_order o ((k, v) ∷ e ∷ es) ((e.0, v) ∷ es) (e ∷ put nat_cmp k v es)) h.0
 
+  -- A list whose keys rise is the entries of its map.
   pub listed : (es : List (ℕ × X)) → IsStrictlySortedBy nat_cmp (keys_of es) → map.entries (map.from_entries {R = nat_cmp} es) ≡ es
   unfolding IsStrictlySortedBy
   listed [] h = none _ (sym (len-entries (map.empty {X = X} {R = nat_cmp})) ∙ map.len-empty nat_cmp X)
@@ -37,6 +39,7 @@ module _ {X : Type 0} where
   pub nat_len : (m : BTreeMap ℕ X) → tree.IsOrdered nat_cmp m → map.len (map.from_entries {R = nat_cmp} m.entries) ≡ tree.btree_map_len m
   nat_len m h = len-entries _ ∙ ap length (nat_entries m h)
 
+  -- A sum over entries by their values is the sum over the values.
   sum_of_values : (f : X → ℕ) (es : List (ℕ × X)) → sum_by (λ e. f e.1) es ≡ sum_by f (values_of es)
   sum_of_values f [] = refl
   sum_of_values f (e ∷ es) = sum_by-cons (λ x. f x.1) e es ∙ ap (λ n. f e.1 + n) (sum_of_values f es) ∙ sym (sum_by-cons f e.1 (values_of es))
