@@ -57,15 +57,19 @@ module _ (p : Collector) (h : Inside) (pid fd : ℕ) (free : table_at (the_view 
 
 -- A descriptor that is open.
 module _ (p : Collector) (h : Inside) (was : BothInvariants p h.procs h.files h.ledger) (pid fd f : ℕ) (is : table_at (the_view h).world pid fd ≡ Some f) where
+  -- The world without the descriptor.
   abbrev closed : World
   closed = uninstall (the_view h).world pid fd
 
+  -- The world when the pass began.
   abbrev begun : World
   begun = p.begun.value.world
 
+  -- The files without its reference.
   abbrev left : FilesView
   left = without_descriptor p.progress.stage f h.files
 
+  -- Their counts, with the charges.
   abbrev tally : Tally
   tally = kept_of left.counts h.ledger
 

@@ -16,17 +16,20 @@ use Rattle.af_desc.specs.FilesView.{after_end, after_hangup, socket_in}
 
 -- The files without one of them, whose peer has hung up, are those of the world without it.
 module _ (m : Map File) (f : ℕ) where
+  -- It is so by the state of the one.
   by-state : (t : State) → after_hangup t (map.remove m f) ≡ drop_with t f m
   by-state state.Idle = refl
   by-state (state.Listening b) = refl
   by-state (state.Connected p) = refl
   by-state state.HungUp = refl
 
+  -- It is so whether the one is a socket, a plain file or unknown.
   by-file : (o : Option File) → after_end (option_and_then socket_of o) (map.remove m f) ≡ drop_with (option_map_or state_of o state.Idle) f m
   by-file None = refl
   by-file (Some Plain) = refl
   by-file (Some (AsSocket s)) = by-state s.state
 
+-- In a world with mutual peers, to remove a file and hang up its peer is to free it.
 pub gone_end : (w : World) (f : ℕ) → AreMutual w → record w { files = after_end (socket_in w.files f) (map.remove w.files f) } ≡ without (nat_eq f) w
 gone_end w f peers = ap (λ fs. record w { files = fs }) (by-file w.files f (map.get w.files f)) ∙ sym (without_one w f peers)
 

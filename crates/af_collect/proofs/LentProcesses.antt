@@ -50,9 +50,11 @@ at-error (Ok t) holds = tt
 at-error (Err e) holds = holds
 
 module _ (p : Collector) (h : Inside) (pid : ℕ) (q : ProcessView) (at : map.get h.procs.processes pid ≡ Some q.process) (fs : FilesView) (files : fs ≡ h.files) where
+  -- The processes with q in place of pid's.
   abbrev lent : Procs
   lent = with_process h.procs pid q
 
+  -- They are as before.
   back : lent.processes ≡ h.procs.processes
   back = back-same h.procs.processes pid q.process q.process at refl
 

@@ -106,15 +106,19 @@ module _ (p : Place) (m : Map Count) (a : ℕ) where
         ∙ ap (λ c. map.insert one b (more p c)) (second other)
 
 module _ (p : Collector) (h : Inside) (was : BothInvariants p h.procs h.files h.ledger) where
+  -- The world before.
   abbrev w : World
   w = (the_view h).world
 
+  -- The number of the next file.
   abbrev n : ℕ
   n = w.next_ino
 
+  -- The counts and charges kept before.
   abbrev k : Tally
   k = kept_of h.files.counts h.ledger
 
+  -- The world when the pass began.
   abbrev begun : World
   begun = p.begun.value.world
 

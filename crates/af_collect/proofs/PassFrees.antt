@@ -20,6 +20,7 @@ pub holder_live : (w : World) (s f : ℕ) → Holds w s f → IsLive w s
 holder_live w s f h = ap is_some (holds-there w s f h).1
 
 module _ {begun old : World} (bound : ℕ) (s : IsSince begun old bound) (marked grey visited : ℕ → Bool) (i : IsMarking begun old marked grey visited) where
+  -- Garbage of the begin that is unheld was unheld at the begin.
   goes : (f : ℕ) → Unheld old f → Garbage begun f → Unheld begun f
   goes _ (Goes f l t hs) g = Goes f g.0 (λ t. g.1 (ByTable f t)) (λ q h. goes q (hs q (i.queues q f g h)) (holder_live begun q f h, λ r. g.1 (BySocket q f r h)))
 
@@ -28,18 +29,23 @@ module _ {begun old : World} (bound : ℕ) (s : IsSince begun old bound) (marked
   never_garbage x l t hs g = s.sound.settled x (goes x (Goes x l t (λ q h. absurd (hs q h))) g)
 
 module _ (begun old : World) (x : ℕ) where
+  -- The world after x is freed.
   abbrev rest : World
   rest = without (nat_eq x) old
 
+  -- A file that is live there is another, and was live.
   live_was : (f : ℕ) → IsLive rest f → (nat_eq x f ≡ false) × IsLive old f
   live_was f l = stays (nat_eq x f) (is_live old f) (sym (live-without (nat_eq x) old f) ∙ l)
 
+  -- Another file is live there exactly if it was.
   live_other : (f : ℕ) → nat_eq x f ≡ false → is_live rest f ≡ is_live old f
   live_other f e = live-without (nat_eq x) old f ∙ ap (λ b. cond (not b) (is_live old f) false) e
 
+  -- x is not live there.
   live_gone : is_live rest x ≡ false
   live_gone = live-without (nat_eq x) old x ∙ ap (λ b. cond (not b) (is_live old x) false) (itself x)
 
+  -- Another file is a socket there exactly if it was.
   kind_other : (f : ℕ) → nat_eq x f ≡ false → is_socket_at rest f ≡ is_socket_at old f
   kind_other f e = ap (λ o. option_map_or is_socket o false) (get-without (nat_eq x) old f ∙ ap (λ b. cond (not b) (option_map (file_without (nat_eq x)) (map.get old.files f)) None) e) ∙ each (map.get old.files f) where
     each : (o : Option File) → option_map_or is_socket (option_map (file_without (nat_eq x)) o) false ≡ option_map_or is_socket o false
@@ -143,6 +149,7 @@ module _ (begun old : World) (x : ℕ) where
             subst (IsGarbageCount begun) m i.counted;
       }
 
+  -- Where tests agree but at x, no more live files of the begin pass.
   fewer : (p p' : ℕ → Bool) → ((f : ℕ) → nat_eq x f ≡ false → p' f ≡ p f) → live_count begun rest p' ≤ live_count begun old p
   fewer p p' same = count_le (λ e. is_live rest e.0 && p' e.0) (λ e. is_live old e.0 && p e.0) (map.entries begun.files) (λ e d.
       let parts = and_parts (is_live rest e.0) (p' e.0) d in

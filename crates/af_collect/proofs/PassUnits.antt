@@ -89,6 +89,7 @@ module _ {begun now : World} (marked grey visited : ℕ → Bool) (x : ℕ) wher
       record { at_least = omega (arith, a.at_least, more); at_most = omega (arith, a.at_most, less) }
 
 module _ {begun now : World} (marked grey visited visited' : ℕ → Bool) where
+  -- Marking continues where each file that is newly visited is marked or in no table.
   visits : ((f : ℕ) → visited f ≡ false → InTable now f → (marked f ≡ true) ⊎ (visited' f ≡ false)) → IsMarking begun now marked grey visited → IsMarking begun now marked grey visited'
   visits each i = record {
     marks = record {

@@ -13,10 +13,11 @@ stray_in (inl a) g = a
 stray_in (inr n) g = absurd (n g)
 
 module _ {begun old new : World} (m : Moves begun old new) where
+  -- A file of the begin that is live afterwards was live before.
   back : (f : ℕ) → IsLive begun f → IsLive new f → IsLive old f
   back f b l = sym (m.live_same f b) ∙ l
 
-  -- The world stays one since the begin, where no file below the bound is born.
+  -- The world stays one since the begin, if no file below the bound is made.
   pub since_moves : (bound : ℕ) → ((f : ℕ) → IsLive new f → f < bound → IsLive old f) → IsSince begun old bound → IsSince begun new bound
   since_moves bound was s = record {
     sound = s.sound;
@@ -55,9 +56,11 @@ module _ {begun old new : World} (m : Moves begun old new) where
     queues = λ s f g h. c.queues_keep s f g (i.queues s f g h);
   }
 
+  -- As many live files of the begin pass a test as before.
   live_count_same : (test : ℕ → Bool) → live_count begun new test ≡ live_count begun old test
   live_count_same test = count_same begun.files (λ e. is_live new e.0 && test e.0) (λ e. is_live old e.0 && test e.0) (λ k v is. ap (λ b. b && test k) (m.live_same k (ap is_some is)))
 
+  -- As many live sockets of the begin are unmarked as before.
   left_count_same : (marked : ℕ → Bool) → left_count begun new marked ≡ left_count begun old marked
   left_count_same marked =
       count_same begun.files (λ e. is_socket e.1 && (is_live new e.0 && not (marked e.0))) (λ e. is_socket e.1 && (is_live old e.0 && not (marked e.0))) (λ k v is. ap (λ b. is_socket v && (b && not (marked k))) (m.live_same k (ap is_some is)))

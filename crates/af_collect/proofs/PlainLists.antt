@@ -40,10 +40,12 @@ less Equal p = absurd p
 less Greater p = absurd p
 
 module _ {X : Type 0} where
+  -- A key below all entries' is below each of their keys.
   below_sorted : (k : ℕ) (es : List (ℕ × X)) → T (below_all nat_cmp k es) → AllByRecursion (λ y. nat_cmp k y ≡ Less) (keys_of es)
   below_sorted k [] h = tt
   below_sorted k (e ∷ es) h = (less _ (first _ _ h), below_sorted k es (second _ _ h))
 
+  -- The keys of sorted entries rise.
   keys_sorted : (es : List (ℕ × X)) → T (is_sorted nat_cmp es) → IsStrictlySortedBy nat_cmp (keys_of es)
   unfolding IsStrictlySortedBy
   keys_sorted [] h = tt
@@ -51,6 +53,7 @@ module _ {X : Type 0} where
 
 -- A list whose items are the entries of a map, with the values changed.
 module _ {A X : Type 0} (key : A → ℕ) (value : A → X) (g : X → X) (xs : List A) (m : Map X) (same : map (entry key value) xs ≡ map (changed g) (finmap.entries m)) where
+  -- The map of changed entries is the map with its values changed.
   from_changed : (es : List (ℕ × X)) → finmap.from_entries {R = nat_cmp} (map (changed g) es) ≡ map_entries (λ _. g) es
   from_changed [] = refl
   from_changed (e ∷ es) = ap (λ m. finmap.insert m e.0 (g e.1)) (from_changed es)
@@ -70,6 +73,7 @@ module _ {X : Type 0} (g : X → X) (d : X) where
   abbrev pub looked : Map X → ℕ → ℕ × X
   looked m k = (k, g (unwrap_or (finmap.get m k) d))
 
+  -- The keys of these entries, each with what the map has there, are the entries.
   looked_all : (m : Map X) (es : List (ℕ × X)) → T (is_sorted nat_cmp es) → ((k : ℕ) (x : X) → find nat_cmp k es ≡ Some x → finmap.get m k ≡ Some x) → map (looked m) (keys_of es) ≡ map (changed g) es
   looked_all m [] s h = refl
   looked_all m (e ∷ es) s h =

@@ -25,6 +25,7 @@ abbrev pub Receives : World → ℕ → ℕ → List ℕ → Type 0
 Receives w s pid fds = (is_none (socket_at w s) ≡ false) × IsTrue (map.contains_key w.processes pid) × ((k : ℕ) × (fds ≡ lowest_free k (process_at w pid)))
 
 module _ (p : Collector) (h : Inside) (o : StoreView) (opened : the_view h ≡ p.places) (seen : shown p p.places ≡ o) (s max pid : ℕ) (fds : List ℕ) (asked : CanReceive o s max pid fds) where
+  -- The world of the store.
   abbrev w : World
   w = (the_view h).world
 

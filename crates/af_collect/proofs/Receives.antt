@@ -29,19 +29,24 @@ received_at w s n = (received_of (socket_at w s) n).message
 abbrev pub tabled : World → ℕ → List ℕ → List ℕ → World
 tabled w p ns fs = record w { processes = filled w.processes p (zip ns fs) }
 
+-- The counts when its files are counted in the table.
 abbrev pub counted : Tally → List ℕ → List ℕ → Tally
 counted k ns fs = with_refs Table (map (λ e. e.1) (zip ns fs)) k
 
 module _ (w : World) (s n : ℕ) (k : Tally) (h : IsExact w k) (some : 0 < n) (socket : is_none (socket_at w s) ≡ false) where
+  -- The socket that the receive takes from.
   abbrev from : Socket
   from = unwrap_or (socket_at w s) no_socket
 
+  -- The message that it hands on.
   abbrev m : Message
   m = received_at w s n
 
+  -- What it leaves in the queue.
   abbrev rest : List Message
   rest = (taken_at w s n).rest
 
+  -- The queue sheds the message, and the rest is left.
   shed : Sheds from.queue m rest
   shed = sheds-taken from.kind from.queue n some (h.within.sockets s from (is-socket w s socket)).messages
 

@@ -49,12 +49,15 @@ rest-vacated s None v = refl
 rest-vacated s (Some f) v = refl
 
 module _ (p : Collector) (h : Inside) (was : BothInvariants p h.procs h.files h.ledger) (pid fd : ℕ) (o : Option ℕ) (is : table_at (the_view h).world pid fd ≡ o) where
+  -- The world before.
   abbrev w : World
   w = (the_view h).world
 
+  -- The world when the pass began.
   abbrev begun : World
   begun = p.begun.value.world
 
+  -- The files without the reference of the replaced one.
   abbrev left : FilesView
   left = vacated p.progress.stage o h.files
 

@@ -15,9 +15,11 @@ use Rattle.af_base.proofs.Lookups.{none_some, same_or_not, some_same, there, tol
 use Rattle.af_collect.specs.Since.{live_count}
 
 module _ {X : Type 0} where
+  -- The entries that pass are the first one, if it does, and the later ones.
   count-cons : (p : ℕ × X → Bool) (e : ℕ × X) (es : List (ℕ × X)) → count_by p (e ∷ es) ≡ cond (p e) 1 0 + count_by p es
   count-cons p e es = sum_by-cons (λ x. cond (p x) 1 0) e es
 
+  -- Tests that agree on each sorted entry are passed by as many.
   same_in : (p q : ℕ × X → Bool) (es : List (ℕ × X)) → T (is_sorted nat_cmp es) → ((k : ℕ) (v : X) → find nat_cmp k es ≡ Some v → p (k, v) ≡ q (k, v)) → count_by p es ≡ count_by q es
   same_in p q [] s h = refl
   same_in p q (e ∷ es) s h =
@@ -40,6 +42,7 @@ module _ {X : Type 0} where
       ] refl in
       omega (arith, count-cons p e es, count-cons q e es, each, rest)
 
+  -- A test that passes one entry more, and agrees elsewhere, is passed by one more.
   one_in : (x : ℕ) (v : X) (p q : ℕ × X → Bool) → p (x, v) ≡ false → q (x, v) ≡ true → (es : List (ℕ × X)) → T (is_sorted nat_cmp es) → find nat_cmp x es ≡ Some v
       → ((k : ℕ) (w : X) → find nat_cmp k es ≡ Some w → nat_eq x k ≡ false → p (k, w) ≡ q (k, w)) → count_by q es ≡ count_by p es + 1
   one_in x v p q miss hit [] s is h = absurd (none_some v is)
@@ -71,6 +74,7 @@ module _ {X : Type 0} where
   count_one m x v p q is miss hit same = one_in x v p q miss hit (map.entries m) (entries_sorted m) (sym (get-entries m x) ∙ is) (λ k w found. same k w (get-entries m k ∙ found))
 
 module _ (begun now : World) where
+  -- Tests that agree on live files agree on what is live and passes.
   agree : (p q : ℕ → Bool) (f : ℕ) → (IsLive now f → p f ≡ q f) → (is_live now f && p f) ≡ (is_live now f && q f)
   agree p q f h = by (is_live now f) refl where
     by : (b : Bool) → is_live now f ≡ b → (b && p f) ≡ (b && q f)
