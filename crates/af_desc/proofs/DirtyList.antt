@@ -136,6 +136,7 @@ module _ (old new : FileTableView) (fs : List ℕ) (space : ℕ) (since : Since)
 
 -- A file is dirty, and changes then.
 module _ (old mid : FileTableView) (fs gs : List ℕ) (space most : ℕ) (since : Since) (f : ℕ) (h : FitsDirty old fs space since) (n : MakesDirty since.changed old mid f) (listed : IsDirtyList mid.dirty gs) (still : since.changed ≡ false → gs ≡ fs) (more : space ≤ most) where
+  -- The list is right before the change.
   pub dirty-first : FitsDirty mid gs most since
   dirty-first = record {
     listed = listed;
@@ -144,6 +145,7 @@ module _ (old mid : FileTableView) (fs gs : List ℕ) (space most : ℕ) (since 
     same = λ a g s e. let at = ap (λ l. face_in l.files g) n.rest in at ∙ h.same a g (sym (alike mid.files old.files g at) ∙ s) (n.others g e);
   }
 
+  -- It is right after the change.
   pub dirty-changed : {b : Bool} (new : FileTableView) (g : Socket → Socket) → new ≡ record mid { files = change_socket_at g mid.files f; message_room = b } → FitsDirty new gs most since
   dirty-changed new g is = subst (λ l. FitsDirty l gs most since) (sym is) (record {
     listed = dirty-first.listed;
@@ -193,6 +195,7 @@ dirty-absent m fs f h there none = by (map.get m f) there (sym none ∙ h f) whe
 
 -- A file that was not dirty is dirty, and the last of the list, which has room for it.
 module _ (asked : Bool) (old new : FileTableView) (f : ℕ) (is : new ≡ record old { dirty = map.insert old.dirty f true }) where
+  -- The file is dirty, and no other changes.
   pub dirty-set : map.len new.dirty ≡ map.len old.dirty → MakesDirty asked old new f
   dirty-set many = record {
     rest = is ∙ ap {B = FileTableView} (λ m. record old { dirty = m }) (sym (ap (λ l. l.dirty) is));
@@ -206,6 +209,7 @@ module _ (asked : Bool) (old new : FileTableView) (f : ℕ) (is : new ≡ record
     now : (g : ℕ) → map.get new.dirty g ≡ map.get (map.insert old.dirty f true) g
     now g = ap (λ l. map.get l.dirty g) is
 
+  -- The longer list has just the dirty files, and not all files were in it before.
   pub listed-set : (fs : List ℕ) → IsDirtyList old.dirty fs → map.get old.dirty f ≡ Some false → IsDirtyList new.dirty (fs ++ f ∷ []) × (length fs < map.len new.dirty)
   listed-set fs h at = just-pushed (λ b. b) old.dirty new.dirty fs f h true (ap (λ l. l.dirty) is) refl (ap (λ o. option_map_or (λ b. b) o false) at)
 
@@ -227,12 +231,15 @@ none-counts g (x ∷ xs) e = absurd (omega (arith, e))
 
 -- A freed file leaves the list.
 module _ (m : Map Bool) (fs : List ℕ) (f : ℕ) (h : IsDirtyList m fs) where
+  -- An empty list stays right.
   pub struck-empty : length fs ≡ 0 → IsDirtyList (map.remove m f) fs
   struck-empty e = just-gone (λ b. b) m (map.remove m f) fs f h fs refl (λ g. let none = none-counts g fs e in omega (arith, none))
 
+  -- A list without the file is right.
   pub struck-listed : (gs : List ℕ) → ((g : ℕ) → count_in g gs ≡ count_in g fs - one g f) → IsDirtyList (map.remove m f) gs
   struck-listed gs less = just-gone (λ b. b) m (map.remove m f) fs f h gs refl less
 
+  -- Where the file was not dirty the list stays right.
   pub struck-other : option_map_or (λ b. b) (map.get m f) false ≡ false → IsDirtyList (map.remove m f) fs
   struck-other n = just-without (λ b. b) m (map.remove m f) fs f h refl n
 
@@ -246,12 +253,14 @@ struck-last m fs gs f h is = just-struck (λ b. b) m (map.insert m f false) fs f
 
 -- A file more, which is not dirty yet.
 module _ (p : Place) (old mid : FileTableView) (fs : List ℕ) (space : ℕ) (since : Since) (ino room : ℕ) (x : File) (h : FitsDirty old fs space since) (is : mid ≡ with_entry ino x p room old) where
+  -- The list stays right.
   pub pushed-listed : map.contains_key old.dirty ino ≡ false → IsDirtyList mid.dirty fs
   pushed-listed new = just-same (λ b. b) old.dirty mid.dirty fs ino h.listed false (ap (λ l. l.dirty) is) (by (map.get old.dirty ino) new) where
     by : (o : Option Bool) → is_some o ≡ false → false ≡ option_map_or (λ b. b) o false
     by None e = refl
     by (Some b) e = absurd (false≢true (sym e))
 
+  -- It is right after the file is made dirty.
   pub dirty-pushed : (new : FileTableView) (gs : List ℕ) (most k : ℕ) → k ≡ ino → MakesDirty since.changed mid new k → IsDirtyList new.dirty gs → (since.changed ≡ false → gs ≡ fs) → (since.changed ≡ true → map.len mid.dirty ≤ space) → space ≤ most → FitsDirty new gs most since
   dirty-pushed new gs most k here n listed still fits more = record {
     listed = listed;

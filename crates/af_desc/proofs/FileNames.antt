@@ -89,15 +89,19 @@ one-or-two a b = by (eq_by_cmp (slice_cmp nat_cmp) a b) refl where
   by false e = inr e
 
 module _ (names : NamesView) (m : Map File) (h : AreNamed names m) (name : List ℕ) where
+  -- A removed name leads nowhere.
   taken-here : map.get (map.remove names name) name ≡ None
   taken-here = get-remove nat_list_cmp_total names name name ∙ ap (λ b. cond b None (map.get names name)) (sym (texts_ties name name) ∙ list_itself name)
 
+  -- Another name leads where it did.
   taken-other : (q : List ℕ) → eq_by_cmp (slice_cmp nat_cmp) q name ≡ false → map.get (map.remove names name) q ≡ map.get names q
   taken-other q e = get-remove nat_list_cmp_total names name q ∙ ap (λ b. cond b None (map.get names q)) e
 
+  -- A new name leads to its file.
   given-here : (f : ℕ) → map.get (map.insert names name f) name ≡ Some f
   given-here f = get-insert nat_list_cmp_total names name f name ∙ ap (λ b. cond b (Some f) (map.get names name)) (sym (texts_ties name name) ∙ list_itself name)
 
+  -- Another name leads where it did before.
   given-other : (f : ℕ) (q : List ℕ) → eq_by_cmp (slice_cmp nat_cmp) q name ≡ false → map.get (map.insert names name f) q ≡ map.get names q
   given-other f q e = get-insert nat_list_cmp_total names name f q ∙ ap (λ b. cond b (Some f) (map.get names q)) e
 

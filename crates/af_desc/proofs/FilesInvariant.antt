@@ -121,6 +121,7 @@ module _ {embryos bound white : ℕ} (old new : TrackedTableView) (ws : List ℕ
 
 -- The view of rows in a pass, with this bound and this next number.
 module _ (epoch bound : ℕ) where
+  -- The files that these rows show.
   abbrev pub seen : TrackedTableView → ℕ → FilesView
   seen r next = record { files = r.files; counts = r.counts; marks = record { colors = colors_in epoch r.marks; bound = bound }; since = r.since; next = next; message_room = r.message_room }
 

@@ -32,6 +32,7 @@ bit b = cond b 1 0
 
 -- The same keys of as many rows, and the same last number.
 module _ (old new : FileTableView) (gone : List ℕ) (wide : ℕ) (since : Since) (h : AreAccounted old gone wide since) where
+  -- The list of freed files stays right.
   pub accounted-alike : (more : ℕ) → new.last ≡ old.last → ((f : ℕ) → map.contains_key new.counts f ≡ map.contains_key old.counts f) → map.len new.counts ≡ map.len old.counts → wide ≤ more → AreAccounted new gone more since
   accounted-alike more last live len wider = record {
     later = let low = h.later in omega (arith, low, last);
@@ -46,9 +47,11 @@ module _ (old new : FileTableView) (gone : List ℕ) (wide : ℕ) (since : Since
 
 -- A file comes, under the number after the last.
 module _ (p : Place) (old mid : FileTableView) (gone : List ℕ) (wide : ℕ) (since : Since) (ino room : ℕ) (x : File) (h : AreAccounted old gone wide since) (is : mid ≡ with_entry ino x p room old) (next : ino ≡ old.last + 1) where
+  -- The last number is the new one.
   last : mid.last ≡ ino
   last = ap (λ l. l.last) is
 
+  -- There are counts of the new file and of those before.
   comes : (f : ℕ) → map.contains_key mid.counts f ≡ map.contains_key (map.insert old.counts ino (more p uncounted)) f
   comes f = ap (λ l. map.contains_key l.counts f) is
 
@@ -75,6 +78,7 @@ module _ (p : Place) (old mid : FileTableView) (gone : List ℕ) (wide : ℕ) (s
         ]
   ]
 
+  -- The list of freed files stays right, where it has room.
   pub accounted-pushed : (since.released ≡ true → length gone + map.len mid.counts ≤ wide) → AreAccounted mid gone wide since
   accounted-pushed fits = record {
     later = let low = h.later in omega (arith, low, next, last);
@@ -92,6 +96,7 @@ module _ (p : Place) (old mid : FileTableView) (gone : List ℕ) (wide : ℕ) (s
 
 -- A file is freed.
 module _ (old new : FileTableView) (gone : List ℕ) (wide : ℕ) (since : Since) (h : AreAccounted old gone wide since) (f : ℕ) (gs : List ℕ) (more : ℕ) where
+  -- The list is right with the file in it.
   pub accounted-gone : new ≡ without_entry f new.room old
       → (since.released ≡ true → (q : ℕ) → count_in q gs + bit (map.contains_key (map.remove old.counts f) q) ≡ count_in q gone + bit (map.contains_key old.counts q))
       → (since.released ≡ true → length gs + map.len (map.remove old.counts f) ≡ length gone + map.len old.counts) → wide ≤ more → AreAccounted new gs more since
@@ -208,12 +213,15 @@ module _ (old new : FileTableView) (fs : List ℕ) (space : ℕ) (gone : List �
 
 -- A file is dirty, and changes then.
 module _ (old mid : FileTableView) (fs gs : List ℕ) (space most : ℕ) (gone : List ℕ) (wide all : ℕ) (since : Since) (f : ℕ) (h : AreTold old fs space gone wide all since) (n : MakesDirty since.changed old mid f) (listed : IsDirtyList mid.dirty gs) (still : since.changed ≡ false → gs ≡ fs) (same : most ≡ space) where
+  -- The list of freed files stays right.
   accounted-dirty : AreAccounted mid gone wide since
   accounted-dirty = accounted-same old mid gone wide since h.accounted wide (ap (λ l. l.last) n.rest) (ap (λ l. l.counts) n.rest) (omega arith)
 
+  -- Both lists keep their room.
   roomy-dirty : HaveSpace all most gone wide since
   roomy-dirty = record { changed = λ a. let few = h.roomy.changed a in omega (arith, few, same); released = h.roomy.released }
 
+  -- Both lists are right after the change.
   pub told-changed : (b : Bool) (new : FileTableView) (g : Socket → Socket) → new ≡ record mid { files = change_socket_at g mid.files f; message_room = b } → AreTold new gs most gone wide all since
   told-changed b new g is = record {
     dirty = dirty-changed old mid fs gs space most since f h.dirty n listed still (omega (arith, same)) new g is;
@@ -261,6 +269,7 @@ lived m k is =
 
 -- A freed file is in the list.
 module _ {V : Type 0} (m : Map V) (k : ℕ) (fs gs : List ℕ) where
+  -- Each number is as often live or listed as before.
   pub freed-listed : gs ≡ fs ++ k ∷ [] → map.contains_key m k ≡ true → (f : ℕ) → count_in f gs + bit (map.contains_key (map.remove m k) f) ≡ count_in f fs + bit (map.contains_key m f)
   freed-listed is was f =
       let more = sum_by-append (one f) fs (k ∷ []) in
@@ -278,6 +287,7 @@ module _ {V : Type 0} (m : Map V) (k : ℕ) (fs gs : List ℕ) where
             omega (arith, all, none, same)
       ]
 
+  -- As many are live or listed as before.
   pub freed-len : gs ≡ fs ++ k ∷ [] → map.contains_key m k ≡ true → length gs + map.len (map.remove m k) ≡ length fs + map.len m
   freed-len is was =
       let some = lived m k was in
@@ -294,6 +304,7 @@ module _ {V : Type 0} (m : Map V) (k : ℕ) (fs gs : List ℕ) where
       ] in
       omega (arith, same, still)
 
+  -- Where the file was unknown nothing changes.
   pub absent-len : gs ≡ fs → map.contains_key m k ≡ false → length gs + map.len (map.remove m k) ≡ length fs + map.len m
   absent-len is none =
       let same : map.len (map.remove m k) ≡ map.len m = map.len-remove nat_cmp_total m k ∙ ap (λ b. cond b (map.len m - 1) (map.len m)) none in

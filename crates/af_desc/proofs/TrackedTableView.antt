@@ -62,6 +62,7 @@ chains_stay s m f y is h = record {
 
 -- A row comes that has nothing to receive.
 module _ (s : Slab Node) (m : Map FileRow) (f : ℕ) (x : FileRow) (none : x.chain.len ≡ 0) where
+  -- Each row's chain is its file's.
   pub chains_put : AreChained s m → AreChained s (map.insert m f x)
   chains_put h = record {
     each = λ g z is. elim (same_or_not g f) [
@@ -72,6 +73,7 @@ module _ (s : Slab Node) (m : Map FileRow) (f : ℕ) (x : FileRow) (none : x.cha
     ];
   }
 
+  -- The files have the new one.
   pub files_put : IfSome x.endpoint (λ e. e.queue ≡ []) → files_of s (map.insert m f x) ≡ map.insert (files_of s m) f (file_of x.endpoint)
   files_put silent = part_put (file_in s) m f x ∙ ap (map.insert (files_of s m) f) (by x.endpoint silent) where
     by : (o : Option Socket) → IfSome o (λ e. e.queue ≡ []) → file_of (option_map (refilled (messages_of s x.chain)) o) ≡ file_of o
@@ -96,9 +98,11 @@ pub ruleset chains = (chains_stay, chains_put, chains_taken, chains_none, files_
 
 -- Of a socket: what it has to receive is in its chain.
 module _ (s : Slab Node) (m : Map FileRow) (f : ℕ) (x : FileRow) (at : map.get m f ≡ Some x) (e : Socket) (is : x.endpoint ≡ Some e) where
+  -- The file is the socket with the messages of its chain.
   pub shown_is : map.get (files_of s m) f ≡ Some (AsSocket (refilled (messages_of s x.chain) e))
   shown_is = file_is m f x at s ∙ ap (λ o. Some (file_of (option_map (refilled (messages_of s x.chain)) o))) is
 
+  -- That socket is found there.
   pub socket_is : socket_in (files_of s m) f ≡ Some (refilled (messages_of s x.chain) e)
   socket_is = ap (option_and_then socket_of) shown_is
 
@@ -108,9 +112,11 @@ chained_at s m f o x e at h = subst (IsChain s x.chain) (sym e) (h.each f x at)
 
 -- A file's messages change, and all other files' stay where they are.
 module _ (s t : Slab Node) (m : Map FileRow) (f o : ℕ) (y : FileRow) (e : o ≡ f) (h : AreChained s m) (own : IsChain t y.chain o) (others : SameElsewhere s t o) where
+  -- Another number is not the owner.
   apart : (g : ℕ) → nat_eq g f ≡ false → g ≡ o → ⊥
   apart g off is = not_same g f off (is ∙ e)
 
+  -- Each row's chain is its file's still.
   pub chains_changed : AreChained t (map.insert m f y)
   chains_changed = record {
     each = λ g z is. elim (same_or_not g f) [
@@ -121,6 +127,7 @@ module _ (s t : Slab Node) (m : Map FileRow) (f o : ℕ) (y : FileRow) (e : o �
     ];
   }
 
+  -- The files have the changed one.
   files_changed : files_of t (map.insert m f y) ≡ map.insert (files_of s m) f (file_in t y)
   files_changed = same_map nat_cmp_total nat_cmp-IsAntisymmetric _ _ (λ g. each g (same_or_not g f)) where
     stays : (g : ℕ) → nat_eq g f ≡ false → (q : Option FileRow) → map.get m g ≡ q → option_map (file_in t) q ≡ option_map (file_in s) q
@@ -139,27 +146,33 @@ module _ (s t : Slab Node) (m : Map FileRow) (f o : ℕ) (y : FileRow) (e : o �
   pub messages_changed : (g : Socket → Socket) (x : FileRow) → map.get m f ≡ Some x → file_in t y ≡ file_with g (file_in s x) → files_of t (map.insert m f y) ≡ change_socket_at g (files_of s m) f
   messages_changed g x at is = files_changed ∙ lent_changed (files_of s m) f (file_in s x) (file_in t y) (file_is m f x at s) (file_with g) is
 
+  -- A file that shows the same leaves all files as they were.
   pub messages_stay : (x : FileRow) → map.get m f ≡ Some x → file_in t y ≡ file_in s x → files_of t (map.insert m f y) ≡ files_of s m
   messages_stay x at is = files_changed ∙ lent_same (files_of s m) f (file_in s x) (file_in t y) (file_is m f x at s) is
 
 -- There is room for messages more: those of all files stay.
 module _ (s t : Slab Node) (m : Map FileRow) (same : SameValues s t) (h : AreChained s m) where
+  -- Each chain is its file's there.
   pub chains_roomed : AreChained t m
   chains_roomed = record { each = λ g z at. (same_queue s t g z.chain same (h.each g z at)).0 }
 
 -- A file that is no socket has an empty queue, and no change of a socket changes it.
 module _ (s : Slab Node) (m : Map FileRow) (f : ℕ) where
+  -- An unknown file is no socket.
   pub stranger_is_none : map.get m f ≡ None → socket_in (files_of s m) f ≡ None
   stranger_is_none none = ap (option_and_then socket_of) (part_get (file_in s) m f ∙ ap (option_map (file_in s)) none)
 
+  -- A plain file is no socket.
   pub plain_is_none : (x : FileRow) → map.get m f ≡ Some x → x.endpoint ≡ None → socket_in (files_of s m) f ≡ None
   plain_is_none x at none = ap (option_and_then socket_of) (file_is m f x at s) ∙ ap (λ o. socket_of (file_of (option_map (refilled (messages_of s x.chain)) o))) none
 
 -- A socket changes that is written to in its row.
 module _ (s : Slab Node) (m : Map FileRow) (f : ℕ) (g : Socket → Socket) where
+  -- The files have the changed socket.
   pub row_changed : (x y : FileRow) → map.get m f ≡ Some x → file_in s y ≡ file_with g (file_in s x) → files_of s (map.insert m f y) ≡ change_socket_at g (files_of s m) f
   row_changed x y at is = part_put (file_in s) m f y ∙ lent_changed (files_of s m) f (file_in s x) (file_in s y) (file_is m f x at s) (file_with g) is
 
+  -- A change of an unknown file changes nothing.
   pub none_changed : map.get m f ≡ None → files_of s m ≡ change_socket_at g (files_of s m) f
   none_changed none = unchanged g (files_of s m) f (stranger_is_none s m f none)
 

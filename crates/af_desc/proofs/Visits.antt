@@ -24,9 +24,11 @@ use Rattle.af_desc.proofs.FilesInvariant.{filed-marked, seen}
 use Rattle.af_desc.proofs.Whites.{white-marked, white-scanned}
 
 module _ (epoch bound : ℕ) (r : TrackedTableView) (f : ℕ) where
+  -- The marks that the rows show.
   abbrev now : MarksView
   now = record { colors = colors_in epoch r.marks; bound = bound }
 
+  -- How many descriptors refer to the file.
   abbrev tabled : ℕ
   tabled = (count_in_map r.counts f).tabled
 

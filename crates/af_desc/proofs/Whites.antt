@@ -18,6 +18,7 @@ use Rattle.af_desc.specs.FilesView.{AreWhite}
 use Rattle.af_desc.specs.TrackedTableView.{is_white_in}
 
 module _ (m n : Map Mark) (epoch bound next white : ℕ) (h : AreWhite m epoch bound next white) where
+  -- The marks before.
   abbrev old : MarksView
   old = record { colors = colors_in epoch m; bound = bound }
 

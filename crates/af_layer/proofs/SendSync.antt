@@ -25,12 +25,15 @@ book_send = search (sendable, book_inside) depth 10
 
 -- A layer may be shared whatever its origin is, as a book from there may go to another thread.
 module _ (O : RattleType) (o : Origin.Ghosts O.Denot) where
+  -- The book inside may go to another thread.
   book_from_inside : IsSend (BookFromInside.the_row O o)
   book_from_inside = declared_send (BookFromInside.the_type O o) (search (sendable, crosses, book_send) depth 20, (search (sendable, crosses) depth 20, tt))
 
+  -- So may the book with its origin.
   book_from_send : IsSend (BookFrom.the_row O o)
   book_from_send = search (sendable, book_from_inside) depth 10
 
+  -- So a layer may be used by several threads.
   pub layer_sync : IsSync (Layer.the_row O o)
   layer_sync = search (sendable, crosses, book_from_send) depth 20
 

@@ -48,10 +48,12 @@ module _ {S : Type 0} where
   pub name_looked : (m : HashMap (Vec ℕ) ℕ S) (q : List ℕ) → get (named m.entries) q ≡ hash.get_by (has q) m
   name_looked m q = looked m.entries q
 
+  -- A name put into the hash map is put into the map.
   pub name_inserted : (m n : HashMap (Vec ℕ) ℕ S) (k : Vec ℕ) (v : ℕ) → hash.Updates alike m n k (Some v) → named n.entries ≡ insert (named m.entries) k.items v
   name_inserted m n k v h = same_map nat_list_cmp_total (slice_cmp-IsAntisymmetric nat_cmp-IsAntisymmetric) _ _ (λ q.
       changed m.entries n.entries k.items (Some v) h.1 h.3 q ∙ sym (get-insert nat_list_cmp_total (named m.entries) k.items v q))
 
+  -- A name taken out of the hash map is taken out of the map.
   pub name_removed : (m n : HashMap (Vec ℕ) ℕ S) (k : List ℕ) → hash.UpdatesBy alike (has k) m n None → named n.entries ≡ remove (named m.entries) k
   name_removed m n k h = same_map nat_list_cmp_total (slice_cmp-IsAntisymmetric nat_cmp-IsAntisymmetric) _ _ (λ q.
       changed m.entries n.entries k None h.1 h.3 q ∙ sym (get-remove nat_list_cmp_total (named m.entries) k q))

@@ -82,10 +82,12 @@ owned-spawn m n values last h uid nofile privileged (Ok p) done refused = owned-
 owned-spawn m n values last h uid nofile privileged (Err e) done refused = owned-same m n values last h refused.1
 
 module _ {T : Type 0} (m n : Machine) (values : Map T) (last : ℕ) (h : AreOwned m values last) where
+  -- A begin keeps all values.
   begins : (pass : Pass) (r : Reply) → Begins pass m r n → AreOwned n values last
   begins Idle r b = owned-follows m n values last h (ap (λ (x : Machine). x.since) b.1) (follows-same m.world n.world (ap (λ (x : Machine). x.world) b.1))
   begins (Running begun spent) r b = owned-same m n values last h b.1
 
+  -- A slice keeps them.
   goes-on : (pass : Pass) (b : ℕ) (r : Reply) → GoesOn pass m b r n → AreOwned n values last
   goes-on Idle b r s = owned-same m n values last h s.1
   goes-on (Running begun spent) b r s = elim (slice-by begun spent b m n r s) [
@@ -93,33 +95,41 @@ module _ {T : Type 0} (m n : Machine) (values : Map T) (last : ℕ) (h : AreOwne
     | inr made ↦ owned-follows m n values last h made.2 (follows-purge _ m.world n.world made.0.purged)
   ]
 
+  -- A whole pass keeps them.
   passes : (pass : Pass) (r : Reply) → PassesWhole pass m r n → AreOwned n values last
   passes Idle r p = owned-follows m n values last h p.3 (follows-purge p.0.test m.world n.world p.0.purged)
   passes (Running begun spent) r p = owned-same m n values last h p.1
 
+  -- So does the call of a begin.
   pub owned-begin : (o : Result ℕ Errno) → IfOk o (λ k. Begins m.pass m (reply.Started k) n) → IfErr o (λ e. Begins m.pass m (reply.Refused e) n) → AreOwned n values last
   owned-begin (Ok k) done refused = begins m.pass (reply.Started k) done
   owned-begin (Err e) done refused = begins m.pass (reply.Refused e) refused
 
+  -- So does the call of a slice.
   pub owned-slice : (b : ℕ) (o : Result Progress Errno) → IfOk o (λ x. GoesOn m.pass m b (progress_reply x) n) → IfErr o (λ e. GoesOn m.pass m b (reply.Refused e) n) → AreOwned n values last
   owned-slice b (Ok x) done refused = goes-on m.pass b (progress_reply x) done
   owned-slice b (Err e) done refused = goes-on m.pass b (reply.Refused e) refused
 
+  -- So does the call of a whole pass.
   pub owned-pass : (o : Result Finished Errno) → IfOk o (λ x. PassesWhole m.pass m (finished_reply x) n) → IfErr o (λ e. PassesWhole m.pass m (reply.Refused e) n) → AreOwned n values last
   owned-pass (Ok x) done refused = passes m.pass (finished_reply x) done
   owned-pass (Err e) done refused = passes m.pass (reply.Refused e) refused
 
 -- A file was opened, and carries a value.
 module _ {T : Type 0} (m n : Machine) (values : Map T) (last p fd : ℕ) (h : AreOwned m values last) (v : T) (d : Does m p step.Open (reply.Fd fd) n) where
+  -- The new file's number.
   k : ℕ
   k = m.world.next_ino
 
+  -- The next number is one more.
   next : n.world.next_ino ≡ m.world.next_ino + 1
   next = ap (λ (w : World). w.next_ino) d.2.2
 
+  -- The new file carries a value.
   here : map.contains_key (map.insert values m.world.next_ino v) m.world.next_ino ≡ true
   here = ap is_some (insert-here values m.world.next_ino v)
 
+  -- Another file carries one exactly if it did.
   other : (g : ℕ) → nat_eq g m.world.next_ino ≡ false → map.contains_key (map.insert values m.world.next_ino v) g ≡ map.contains_key values g
   other g apart = ap is_some (insert-other values m.world.next_ino v g apart)
 
@@ -130,9 +140,11 @@ module _ {T : Type 0} (m n : Machine) (values : Map T) (last p fd : ℕ) (h : Ar
     | inr apart ↦ rest g (sym (other g apart) ∙ there)
   ]
 
+  -- The lists run since the same moment.
   since : n.since ≡ m.since
   since = d.3.2
 
+  -- The new number was given since.
   given-now : was_given m.since n.world.next_ino m.world.next_ino ≡ true
   given-now =
       let low = h.later in
@@ -143,15 +155,18 @@ module _ {T : Type 0} (m n : Machine) (values : Map T) (last p fd : ℕ) (h : Ar
   kind-mid : (g : ℕ) → nat_eq g m.world.next_ino ≡ false → kind (add_file m.world Plain) g ≡ kind m.world g
   kind-mid g apart = ap (option_map is_socket) (insert-other m.world.files m.world.next_ino Plain g apart)
 
+  -- The new file is plain.
   kind-new : kind (add_file m.world Plain) m.world.next_ino ≡ Some false
   kind-new = ap (option_map is_socket) (insert-here m.world.files m.world.next_ino Plain)
 
+  -- Each live plain file carries a value, and no live socket does.
   carries : (g : ℕ) (b : Bool) → kind (add_file m.world Plain) g ≡ Some b → map.contains_key (map.insert values m.world.next_ino v) g ≡ not b
   carries g b is = elim (same_or_not g m.world.next_ino) [
     | inl same ↦ ap (map.contains_key (map.insert values m.world.next_ino v)) same ∙ here ∙ ap not (some_same false b (sym kind-new ∙ ap (kind (add_file m.world Plain)) (sym same) ∙ is))
     | inr apart ↦ other g apart ∙ h.carried g b (sym (kind-mid g apart) ∙ is)
   ]
 
+  -- The invariant holds with the new value.
   pub owned-open : AreOwned n (map.insert values m.world.next_ino v) m.world.next_ino
   owned-open = record {
     asked = ap (λ (s : Since). s.released) since ∙ h.asked;

@@ -169,20 +169,25 @@ module _ (w : World) (files : List ListedFile) (s : BTreeSet ℕ) (is : w.files 
   abbrev unmarked : ℕ → Bool
   unmarked f = not (tree.contains nat_cmp s f)
 
+  -- What the filter leaves was in the list.
   inside : (f : ℕ) → Contains (filter unmarked inos) f → Contains inos f
   inside f h = All-contains (Contains inos) (filter unmarked inos) f (All-filter unmarked (Contains inos) inos (All-contains_itself inos)) h
 
+  -- What the filter leaves is unmarked.
   passed : (f : ℕ) → Contains (filter unmarked inos) f → unmarked f ≡ true
   passed f h = All-contains (λ x. unmarked x ≡ true) (filter unmarked inos) f (filter_passes unmarked inos) h
 
+  -- A test whose denial is true is false.
   failed : (b : Bool) → not b ≡ true → b ≡ false
   failed true e = absurd (false≢true e)
   failed false e = refl
 
+  -- A test that is not true has a true denial.
   passes : (b : Bool) → (¬ (b ≡ true)) → not b ≡ true
   passes true n = absurd (n refl)
   passes false n = refl
 
+  -- A file is live exactly if the list has its number.
   at : (f : ℕ) → is_live w f ≡ is_some (option_map file_of (find (λ x. nat_eq f x.ino) files))
   at f = ap (λ m. is_some (finmap.get m f)) is ∙ ap is_some (keyed-get (λ x. x.ino) file_of files f)
 

@@ -88,15 +88,19 @@ module _ (w : World) (p n f : ℕ) (q : Process) (there : map.get w.processes p 
       subst (λ (k : List ℕ × List ℕ). table_at (install_all (with_queue w s rest) p (zip k.0 k.1)) p n ≡ Some f) (λ i. (is i, sym was i)) (installed_here (with_queue w s rest) p n f q there)
 
 module _ (old mid new : Machine) (p on n q at got : ℕ) (bytes : List ℕ) (r : Reply) (is_idle : IsIdle old.world q at) (sent : Does old p (step.Send on bytes (n ∷ [])) r mid) (took : Takes mid q at got new) where
+  -- The world before the send.
   abbrev w : World
   w = old.world
 
+  -- The world between send and receive.
   abbrev v : World
   v = mid.world
 
+  -- The file that is sent.
   abbrev file : (f : ℕ) × (table_at w p n ≡ Some f)
   file = stands w p n (passed w p (step.Send on bytes (n ∷ [])) sent.0).rest.rest.rest.rest.rest.here
 
+  -- The message that is sent.
   abbrev message : Message
   message = record { bytes = bytes; attached = filter_map (table_at w p) (n ∷ []); user = (process_at w p).user }
 
@@ -108,9 +112,11 @@ module _ (old mid new : Machine) (p on n q at got : ℕ) (bytes : List ℕ) (r :
   abbrev y : Socket
   y = socket_on v q at
 
+  -- The receiver's number refers to the same socket after the send.
   same_ino : ino_on v q at ≡ ino_on w q at
   same_ino = ap (λ o. unwrap_or o 0) (same_tables put v q at sent.2)
 
+  -- That socket is live after the send.
   kept : map.get (without sent.2.0 put).files (ino_on w q at) ≡ Some (AsSocket y)
   kept =
       let row = (passed v q (step.Recv at 1 1) took.3.0).rest in
@@ -128,6 +134,7 @@ module _ (old mid new : Machine) (p on n q at got : ℕ) (bytes : List ℕ) (r :
   answered : (nat_eq (length y.queue) 0 ≡ false) × (reply.Got took.0 (got ∷ []) took.1 took.2 ≡ reply.Got (taken_on v q at 1).bytes (got_at v q at 1 1) (taken_on v q at 1).trunc (nat_lt (length (got_at v q at 1 1)) (length (taken_on v q at 1).attached)))
   answered = not_end (nat_eq (length y.queue) 0) took.0 (got ∷ []) took.1 took.2 _ took.3.1
 
+  -- The receiver's new number refers to the file that was sent.
   pub delivered : Delivers w p n new.world q got
   delivered = elim queued [
     | inl e ↦ absurd (false≢true (sym answered.0 ∙ ap (λ l. nat_eq (length l) 0) e))

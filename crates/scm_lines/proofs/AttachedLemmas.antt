@@ -4,6 +4,7 @@ use Rattle.std.proofs.lemmas.Grind.{common_steps}
 use Rattle.scm_lines.specs.Payload.{at_most}
 use Rattle.scm_lines.specs.Attached.{item_of, items_of, joined}
 
+-- These items, and then those of the other words.
 abbrev pub items_before : List ℕ → Option (List ℕ) → Option (List ℕ)
 items_before front None = None
 items_before front (Some items) = Some (front ++ items)

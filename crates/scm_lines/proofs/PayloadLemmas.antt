@@ -2,6 +2,7 @@
 use Rattle.std.proofs.Common.{◌≡◌, ℕ, List, [], ◌∷◌, ◌++◌, Option, Some, None, refl, sym, ap, append_assoc}
 use Rattle.scm_lines.specs.Payload.{byte_before}
 
+-- These bytes, and then those of the rest.
 abbrev pub bytes_before : List ℕ → Option (List ℕ) → Option (List ℕ)
 bytes_before front None = None
 bytes_before front (Some bytes) = Some (front ++ bytes)
