@@ -110,7 +110,7 @@ pub record IsCollected (w : World) : Type 0 where
   pub counted : IsGarbageCount w 0
   pub hung_up : ProcessStep w 1 (step.Send 1 (120 ∷ []) []) (reply.Refused EPIPE) w
 
--- A whole pass after them counts one, takes the cycle away, and leaves such a world.
+-- A whole pass after them counts one, frees the cycle, and leaves such a world.
 abbrev pub CycleIsCollected : Type 0
 CycleIsCollected = (m : Machine) × (after : Machine) × Run fresh cycle_events m
     × Step m event.Pass (reply.Done 1 1) after × IsCollected after.world

@@ -28,11 +28,11 @@ SettlingTwiceIsOnce = (w v new : World) → Settles w v → Settles v new ↔ (n
 abbrev pub IsHeld : World → ℕ → Type 0
 IsHeld w f = InTable w f ⊎ ((s : ℕ) × Holds w s f)
 
--- Where some place holds each live file, nothing is to go.
+-- Where some place holds each live file, nothing is to be freed.
 abbrev pub HeldWorldIsSettled : Type 0
 HeldWorldIsSettled = (w : World) → ((f : ℕ) → IsLive w f → IsHeld w f) → IsSettled w
 
--- Files that hold one another never go by themselves: of any files of which each is held by one of
+-- Settling never frees files that hold one another: of any files of which each is held by one of
 -- them, none is unheld.
 abbrev pub CyclesStay : Type 0
 CyclesStay = (w : World) (cycle : ℕ → Bool)

@@ -14,7 +14,7 @@ nobody = record { number = 0; list = [] }
 abbrev pub number_at : List SeatView → ℕ → ℕ
 number_at seats i = (slice_index_or seats i nobody).number
 
--- The events asked from it, with their replies.
+-- The events done from it, with their replies.
 abbrev pub list_at : List SeatView → ℕ → List Pair
 list_at seats i = (slice_index_or seats i nobody).list
 

@@ -1,7 +1,7 @@
 -- The run of a script: what its lines do, what is written of them, and how it may stop.
 --
--- Bytes are known of some readers and writers, as of those over memory, and of others, as of the
--- standard streams, they are not: `None` is for these, and then nothing is claimed.
+-- Contracts know the bytes of some readers and writers, as of those over memory. Of others, as of
+-- the standard streams, they do not: these show `None`, and then nothing is claimed.
 use Rattle.std.specs.Prelude.{◌≡◌, ◌⊎◌, ℕ, ◌==◌, ◌+◌, ◌-◌, ◌<◌, List, [], ◌∷◌, ◌++◌, take, slice_get, map, Bool, true, false, Option, Some, None, Result, Ok, Err, ⊤}
 use Rattle.std.specs.List.{All, AllByRecursion, flat_map}
 use Rattle.std.specs.Str.Lines.{lines, strip_carriage_return}
