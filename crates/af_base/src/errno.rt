@@ -29,7 +29,7 @@ pub enum Errno {
     ENOBUFS,
     /// The socket was never connected.
     ENOTCONN,
-    /// The peer was freed.
+    /// The peer is gone.
     EPIPE,
     /// The socket is connected already.
     EISCONN,
