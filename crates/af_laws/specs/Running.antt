@@ -14,8 +14,8 @@ use Rattle.af_base.specs.Run.{Run, RunEntry, Step, fresh}
 use Rattle.af_base.specs.Whole.{IsSound}
 use Rattle.af_base.specs.World.{empty_world}
 
--- A slice of this budget is refused, or its pass may continue: no pass runs, or the budget is out of
--- range, or with it the budgets are within three times the files of the begin.
+-- A slice of this budget is refused, or its pass may continue: no pass runs, or the budget is out
+-- of range, or with it the budgets are within three times the files of the begin.
 abbrev pub HasBudget : Pass → ℕ → Type 0
 HasBudget Idle b = Unit {0}
 HasBudget (Running begun spent) b = IsTrue (nat_eq b 0 || nat_lt MAX_BUDGET b)

@@ -14,8 +14,8 @@ use Rattle.af_steps.specs.declared.messages.Envelope.{Envelope}
 abbrev pub message_in : Envelope → List ℕ → Message
 message_in e bytes = record { bytes = bytes; attached = e.attached.items; user = e.user }
 
--- Socket s of this world has room for the message: its queue is not full, tables hold its files, the
--- user of a process is charged for them, and all limits are kept.
+-- Socket s of this world has room for the message: its queue is not full, tables hold its files,
+-- the user of a process is charged for them, and all limits are kept.
 pub record HasRoom (w : World) (s : ℕ) (m : Message) : Type 0 where
   pub socket : is_none (socket_at w s) ≡ false
   pub queue : length (queue_at w s) < MAX_MESSAGES
