@@ -39,39 +39,51 @@ use Rattle.af_laws.specs.Connecting.{AcceptKeepsReferences, AcceptTakesTheFirstE
 
 -- A connect that nothing refuses.
 module _ (w : World) (p n : ℕ) (name : List ℕ) (sound : IsSound w) (fits : refusal w p (step.Connect n name) ≡ None) where
+  -- The embryo's number.
   abbrev e : ℕ
   e = w.next_ino
 
+  -- The client's number.
   abbrev c : ℕ
   c = ino_on w p n
 
+  -- The listener's number.
   abbrev l : ℕ
   l = ino_named w name
 
+  -- The client.
   abbrev client : Socket
   client = socket_on w p n
 
+  -- The listener.
   abbrev listener : Socket
   listener = socket_named w name
 
+  -- The embryo.
   abbrev embryo : File
   embryo = AsSocket (connected_socket listener.kind c)
 
+  -- The world with the embryo, to which nobody is connected yet.
   abbrev base : World
   base = add_file w embryo
 
+  -- The world with the client connected to it.
   abbrev mid : World
   mid = with_socket base c (connected e)
 
+  -- The world after the connect.
   abbrev now : World
   now = effect w p (step.Connect n name)
 
+  -- No test of the row fits.
   row : NoneFits (step_row w p (step.Connect n name))
   row = (none-fits ((not (map.contains_key w.processes p), ESRCH) ∷ step_row w p (step.Connect n name)) fits).rest
 
+  -- The client is live.
   client_there : map.get w.files c ≡ Some (AsSocket client)
   client_there = socket-there w p n row.here row.rest.here
 
+  -- The listener is live.
   listener_there : map.get w.files l ≡ Some (AsSocket listener)
   listener_there = listener-there w name row.rest.rest.rest.rest.here
 
@@ -79,12 +91,15 @@ module _ (w : World) (p n : ℕ) (name : List ℕ) (sound : IsSound w) (fits : r
   listens : not (is_listening listener.state) ≡ false → is_listening client.state ≡ false → ¬ (listener ≡ client)
   listens hears deaf same = false≢true (sym hears ∙ ap not (ap (λ x. is_listening x.state) same ∙ deaf))
 
+  -- They are two sockets.
   apart : nat_eq l c ≡ false
   apart = told_apart l c (λ same. listens row.rest.rest.rest.rest.here row.rest.rest.here (socket_same listener client (some_same _ _ (sym listener_there ∙ ap (map.get w.files) same ∙ client_there))))
 
+  -- The listener is as it was when the client is connected.
   listener_in_mid : map.get mid.files l ≡ Some (AsSocket listener)
   listener_in_mid = others-changed base c (connected e) l apart ∙ still-blank w embryo (blank-connected listener.kind c) sound.whole l (ap is_some listener_there) ∙ listener_there
 
+  -- The embryo has one reference more, and every other file as many as before.
   refs_now : (f : ℕ) → refs now f ≡ refs w f + one f e
   refs_now f =
       let none : count_in f [] ≡ 0 = refl in
@@ -113,12 +128,15 @@ module _ (w : World) (p n : ℕ) (name : List ℕ) (sound : IsSound w) (fits : r
         total-changed (λ y. F (queue_of y)) mid l (queued e) (λ x. refl),
       )
 
+  -- The same files are live as in the world with the embryo.
   live_base : (f : ℕ) → is_live now f ≡ is_live base f
   live_base f = live-changed mid l (queued e) f ∙ live-changed base c (connected e) f
 
+  -- A number equals itself once.
   one_itself : one e e ≡ 1
   one_itself = ap {B = ℕ} (λ b. cond b 1 0) (eq-eqb e e refl)
 
+  -- The world after the connect is settled.
   now_settled : IsSettled now
   now_settled = settled-counted now (λ f live. elim (same_or_not f e) [
     | inl same ↦ let counted : one f e ≡ 1 = ap {B = ℕ} (λ b. cond b 1 0) (eq-eqb f e same) in omega (arith, counted, refs_now f)
@@ -135,6 +153,7 @@ module _ (w : World) (p n : ℕ) (name : List ℕ) (sound : IsSound w) (fits : r
     ])
   ]
 
+  -- The new file is an embryo of the listener.
   is_embryo : IsEmbryoOf now l e
   is_embryo = record {
     live = live_base e ∙ ap is_some (blank-there w embryo (blank-connected listener.kind c));
@@ -145,6 +164,7 @@ module _ (w : World) (p n : ℕ) (name : List ℕ) (sound : IsSound w) (fits : r
 
 -- The world after a connect that is answered is its effect.
 module _ (old new : World) (p n : ℕ) (name : List ℕ) (sound : IsSound old) (h : ProcessStep old p (step.Connect n name) reply.Ok new) where
+  -- No test fits, and the world is the effect.
   answered : (refusal old p (step.Connect n name) ≡ None) × (new ≡ effect old p (step.Connect n name))
   answered =
       let done = outcome_done (refusal old p (step.Connect n name)) false reply.Ok (effect old p (step.Connect n name)) old reply.Ok new ok_is_done h in
@@ -179,12 +199,15 @@ number_in r = 0
 
 -- An accept that nothing refuses.
 module _ (w : World) (p n : ℕ) (sound : IsSound w) (fits : refusal w p (step.Accept n) ≡ None) where
+  -- The listener's number.
   abbrev s : ℕ
   s = ino_on w p n
 
+  -- The listener.
   abbrev x : Socket
   x = socket_on w p n
 
+  -- The world after the accept.
   abbrev accepted : World
   accepted = effect w p (step.Accept n)
 
@@ -220,9 +243,11 @@ module _ (w : World) (p n : ℕ) (sound : IsSound w) (fits : refusal w p (step.A
 
 -- The world after an accept that is answered is its effect.
 module _ (old new : World) (p n m : ℕ) (sound : IsSound old) (h : ProcessStep old p (step.Accept n) (reply.Fd m) new) where
+  -- No test of the row fits.
   abbrev tests : Type 0
   tests = NoneFits ((not (map.contains_key old.processes p), ESRCH) ∷ step_row old p (step.Accept n))
 
+  -- No test fits, the world is the effect, and the number is the lowest free one.
   taken : (refusal old p (step.Accept n) ≡ None) × tests × (new ≡ effect old p (step.Accept n)) × (m ≡ free_at old p 0)
   unfolding number_in
   taken =

@@ -45,11 +45,13 @@ names_find_their_sockets w f name whole = (named-some w name f, λ has. by has (
 pub settled_alike : (w now : World) → ((f : ℕ) → is_live now f ≡ is_live w f) → ((f : ℕ) → refs now f ≡ refs w f) → IsSettled w → IsSettled now
 settled_alike w now live same settled = settled-counted now (λ f l. let held = settled-held w f settled (sym (live f) ∙ l) in omega (arith, held, same f))
 
+-- A world has its own counts.
 unchanged : (w : World) → SameCounts w w
 unchanged w = record { references = λ f. refl; in_flight = λ f. refl; in_backlogs = λ f. refl; charges = λ u. refl; all = refl }
 
 -- A settled effect is the world after the step.
 module _ (now old new : World) (settled : IsSettled now) where
+  -- The world after the step is the settled effect.
   is_effect : Settles now new → new ≡ now
   is_effect t = (settled_stays now new settled).0 t
 
@@ -61,15 +63,19 @@ module _ (now old new : World) (settled : IsSettled now) where
 
 -- A socket changed, but not in its queue and not in its backlog.
 module _ (w : World) (s : ℕ) (g : Socket → Socket) (same_queue : (x : Socket) → (g x).queue ≡ x.queue) (same_backlog : (x : Socket) → (g x).backlog ≡ x.backlog) where
+  -- The world with the changed socket.
   abbrev altered : World
   altered = with_socket w s g
 
+  -- Each sum over queues is as before.
   queues_alike : (F : List Message → ℕ) → total_of (λ y. F (queue_of y)) altered.files ≡ total_of (λ y. F (queue_of y)) w.files
   queues_alike F = total-changed (λ y. F (queue_of y)) w s g (λ x. ap F (same_queue x))
 
+  -- Each reference count is as before.
   refs_alike : (f : ℕ) → refs altered f ≡ refs w f
   refs_alike f = omega (arith, total-changed (λ y. count_in f (contents y)) w s g (λ x. (λ i. count_in f (attached_in (same_queue x i) ++ same_backlog x i))))
 
+  -- All counts are as before.
   alike : SameCounts w altered
   alike = record {
     references = refs_alike;
@@ -79,6 +85,7 @@ module _ (w : World) (s : ℕ) (g : Socket → Socket) (same_queue : (x : Socket
     all = queues_alike (λ q. sum_by (λ m. length m.attached) q);
   }
 
+  -- It is settled if the old world is.
   altered_settled : IsSettled w → IsSettled altered
   altered_settled settled = settled_alike w altered (live-changed w s g) refs_alike settled
 
@@ -97,9 +104,11 @@ nobody (Some f) e = absurd (false≢true (sym e))
 
 -- A bind that nothing refuses.
 module _ (w : World) (p n : ℕ) (name : List ℕ) (sound : IsSound w) (fits : refusal w p (step.Bind n name) ≡ None) where
+  -- The world after the bind.
   abbrev named_world : World
   named_world = effect w p (step.Bind n name)
 
+  -- The name leads to the socket there.
   found : named named_world.files name ≡ Some (ino_on w p n)
   found =
       let row = (none-fits ((not (map.contains_key w.processes p), ESRCH) ∷ step_row w p (step.Bind n name)) fits).rest in

@@ -48,19 +48,23 @@ groups_of_their_own_are_garbage w group apart closed f is = ((apart f is).0, λ 
   out _ (BySocket s f r h) is = out s r (closed s f is h)
 
 module _ (w new : World) (t : Settles w new) where
+  -- No reachable file is freed.
   pub not_gone : (f : ℕ) → Reached w f → t.0 f ≡ false
   not_gone f r = elim (cases_Bool (t.0 f)) [
     | inl e ↦ absurd (reached_is_held w f r ((t.1 f).0 e))
     | inr e ↦ e
   ]
 
+  -- A reachable file is reachable without the freed ones.
   reached_left : (f : ℕ) → Reached w f → Reached (without t.0 w) f
   reached_left _ (ByTable f h) = ByTable f h
   reached_left _ (BySocket s f r h) = BySocket s f (reached_left s r) (to_without t.0 w s f (not_gone s r) h)
 
+  -- What is reachable afterwards was reachable.
   pub reached_before : (f : ℕ) → Reached new f → Reached w f
   reached_before f r = places_keep_reached (without t.0 w) w (λ g h. h, λ s g h. (from_without t.0 w s g h).1) f (subst (λ x. Reached x f) t.2 r)
 
+  -- What was reachable is reachable afterwards.
   reached_after : (f : ℕ) → Reached w f → Reached new f
   reached_after f r = subst (λ x. Reached x f) (sym t.2) (reached_left f r)
 
@@ -69,12 +73,14 @@ settling_keeps_reached w new t f = (reached_after w new t f, reached_before w ne
 
 -- Nothing of what is emptied is reached.
 module _ (w : World) (test : ℕ → Bool) (apart : (f : ℕ) → test f ≡ true → ¬ (Reached w f)) where
+  -- No reachable file is emptied.
   pub not_emptied : (s : ℕ) → Reached w s → test s ≡ false
   not_emptied s r = elim (cases_Bool (test s)) [
     | inl e ↦ absurd (apart s e r)
     | inr e ↦ e
   ]
 
+  -- A reachable file is reachable after the others are emptied.
   pub reached_emptied : (f : ℕ) → Reached w f → Reached (emptied test w) f
   reached_emptied _ (ByTable f h) = ByTable f h
   reached_emptied _ (BySocket s f r h) = BySocket s f (reached_emptied s r) (to_emptied test w s f (not_emptied s r) h)
@@ -97,6 +103,7 @@ table-with_table w p g k m = ap (λ o. option_map_or (λ q. map.get q.table m) o
   each true (Some q) = refl
   each false (Some q) = refl
 
+-- Numbers that compare equal are equal.
 pub same_number : (x y : ℕ) → eq_by_cmp nat_cmp x y ≡ true → x ≡ y
 same_number x y e = eqb-true x y (sym (unsigned_tied x y) ∙ e)
 
@@ -116,12 +123,15 @@ install_keeps_reached w p n g f free = places_keep_reached w (install w p n g) (
 
 -- A message put into a queue: what was held before is held.
 module _ (w : World) (s : ℕ) (m : Message) where
+  -- A socket with the message last in its queue.
   abbrev pushed : Socket → Socket
   pushed x = record x { queue = x.queue ++ m ∷ [] }
 
+  -- What each file holds afterwards, by what it was.
   held-push : (q : ℕ) → held_by (push_message w s m) q ≡ option_map_or contents (option_map (λ x. cond (eq_by_cmp nat_cmp q s) (file_with pushed x) x) (map.get w.files q)) []
   held-push q = ap (λ o. option_map_or contents o []) (get-change_at (file_with pushed) w.files s q)
 
+  -- A held file is held afterwards.
   still_held : (q f : ℕ) → Holds w q f → Holds (push_message w s m) q f
   still_held q f h = subst (λ xs. Contains xs f) (sym (held-push q)) (by (eq_by_cmp nat_cmp q s) (map.get w.files q) h) where
     more : (x : Socket) → Contains (attached_in x.queue) f ⊎ Contains x.backlog f → Contains (attached_in (x.queue ++ m ∷ []) ++ x.backlog) f

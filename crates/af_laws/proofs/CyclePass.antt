@@ -32,15 +32,19 @@ use Rattle.af_laws.specs.Rows.{CycleIsCollected, IsCollected}
 abbrev drained : World
 drained = with_process one_open (ends []) 3
 
+-- The second socket, whose peer was freed.
 abbrev last : File
 last = AsSocket (record no_socket { state = state.HungUp })
 
+-- The second socket alone.
 abbrev alone : Map File
 alone = map.insert none 2 last
 
+-- The world after the pass.
 abbrev collected : World
 collected = with_process one_open alone 3
 
+-- It is the only file.
 alone_at : (f : ℕ) → map.get alone f ≡ cond (eq_by_cmp nat_cmp f 2) (Some last) None
 alone_at f = simp gets refl
 
@@ -56,6 +60,7 @@ turned_round = map.same_map nat_cmp_total nat_cmp-IsAntisymmetric _ _ (λ q. at 
   each q true d false e = refl
   each q false d b e = refl
 
+-- The world with the first emptied is the drained one.
 emptied_closed : emptied (nat_eq 1) closed ≡ drained
 emptied_closed = ap (λ es. record closed { files = map_entries (λ f x. if nat_eq 1 f then empty_file x else x) es }) (entries_ends (hi ∷ [])) ∙ ap (λ fs. record closed { files = fs }) turned_round
 
@@ -63,6 +68,7 @@ emptied_closed = ap (λ es. record closed { files = map_entries (λ f x. if nat_
 no_table : ¬ (InTable drained 1)
 no_table t = omega (arith, only_two 1 t)
 
+-- Then nothing holds the first.
 no_holder : (s : ℕ) → ¬ (Holds drained s 1)
 no_holder s h = by (eq_by_cmp nat_cmp s 2) (eq_by_cmp nat_cmp s 1) (subst (λ o. Contains (option_map_or contents o []) 1) (file_at [] s) h) where
   by : (a b : Bool) → Contains (option_map_or contents (cond a (Some (end_of 1 [])) (cond b (Some (end_of 2 [])) None)) []) 1 → ⊥
@@ -85,21 +91,26 @@ first_gone = ap (λ fs. record collected { files = fs }) (map.same_map nat_cmp_t
       each q false d true e = ap (λ k. cond (not (nat_eq 1 k)) (option_map (file_without (nat_eq 1)) (Some (end_of 2 []))) None) (same_number q 1 e)
       each q false d false e = nothing (not (nat_eq 1 q))
 
+-- Descriptor 1 refers to the second.
 open_one : table_at collected 1 1 ≡ Some 2
 open_one = table_there one_open alone 3 1 ∙ number_at 1
 
+-- A live file is the second.
 only_last : (f : ℕ) → IsLive collected f → f ≡ 2
 only_last f live = by (eq_by_cmp nat_cmp f 2) refl (sym (ap is_some (alone_at f)) ∙ live) where
   by : (a : Bool) → eq_by_cmp nat_cmp f 2 ≡ a → is_some (cond a (Some last) None) ≡ true → f ≡ 2
   by true e l = same_number f 2 e
   by false e l = absurd (false≢true l)
 
+-- It is in a table.
 two_in_table : (f : ℕ) → IsLive collected f → InTable collected f
 two_in_table f live = subst (InTable collected) (sym (only_last f live)) (1, 1, open_one)
 
+-- Nothing is to be freed.
 collected_settled : IsSettled collected
 collected_settled = settled_by collected (λ f live. inl (two_in_table f live))
 
+-- The pass purges the first.
 purged : Purges (nat_eq 1) closed collected
 purged =
     let rest : Settles (without (nat_eq 1) drained) collected = subst (λ w. Settles w collected) (sym first_gone) (settles_none collected collected_settled) in
@@ -111,6 +122,7 @@ none_counted = (λ f. false, λ f. (λ e. absurd (false≢true e), λ g. absurd 
   entries : map.entries alone ≡ (2, last) ∷ []
   entries = entries-insert nat_cmp_total none 2 last ∙ ap (put nat_cmp 2 last) entries_none
 
+-- The user is charged nothing.
 none_charged : charged collected 1000 ≡ 0
 none_charged =
     let F : File → ℕ = λ x. sum_by (charge 1000) (queue_of x) in
@@ -128,11 +140,13 @@ before =
     (not (map.contains_key collected.processes 1), ESRCH) ∷ (is_none (table_at collected 1 1), EBADF) ∷ (is_none (socket_at collected (ino_on collected 1 1)), ENOTSOCK)
     ∷ (false, EINVAL) ∷ (false, EMSGSIZE) ∷ (false, EBADF) ∷ []
 
+-- The tests of a send behind that of the peer.
 abbrev later : RefusalRow
 later =
     let q = process_at collected 1 in
     on_charge (charged collected q.user) (total collected) q.limit q.privileged 0 ++ on_room (queue_at collected (peer_of (socket_on collected 1 1).state))
 
+-- A send by the second is EPIPE.
 hung_up : ProcessStep collected 1 send_step (reply.Refused EPIPE) collected
 hung_up = subst (λ o. Outcome o false (answer collected 1 send_step) (effect collected 1 send_step) collected (reply.Refused EPIPE) collected) (sym refused) (refl, refl) where
   socket : socket_on collected 1 1 ≡ record no_socket { state = state.HungUp }
@@ -146,6 +160,7 @@ hung_up = subst (λ o. Outcome o false (answer collected 1 send_step) (effect co
       passes-on before (on_peer (socket_on collected 1 1) ++ later) (none_fits before (not_missing one_open alone 3, (ap is_none open_one, (is_socket_two, (refl, (refl, (refl, tt)))))))
       ∙ goes-on (on_peer (socket_on collected 1 1)) later EPIPE (ap (λ s. first_fit (on_peer s)) socket)
 
+-- The world is as the law says.
 facts : IsCollected collected
 facts = record {
   live = simp gets refl;
@@ -155,9 +170,11 @@ facts = record {
   hung_up = hung_up;
 }
 
+-- The machine after the pass.
 abbrev after : Machine
 after = record { world = collected; pass = Idle; last_pass = 1; since = untold }
 
+-- A whole pass leads there, and counts one.
 passes : PassesWhole Idle (machine closed) (reply.Done 1 1) after
 passes = (record { test = nat_eq 1; is_garbage = only_one; purged = purged; count = 1; counted = one_counted; answered = refl }, refl, refl, refl)
 

@@ -61,6 +61,7 @@ opens_or_not w t (k ∷ ks) = by (cases_Bool (t k)) (fails_or_not t (held_by w k
 abbrev grown : ℕ → (ℕ → Bool) → ℕ → Bool
 grown f t x = t x || nat_eq f x
 
+-- A fair test with one file more that it leads to is fair.
 grown_fair : (w : World) (t : ℕ → Bool) (s f : ℕ) → IsFair w t → Opens w t s f → IsFair w (grown f t)
 grown_fair w t s f fair edge = record {
   reached = λ x e. elim (or_cases (t x) (nat_eq f x) e) [ inl hit ↦ fair.reached x hit | inr same ↦ subst (Reached w) (eqb-true f x same) (BySocket s f (fair.reached s edge.0) edge.1) ];
@@ -71,6 +72,7 @@ grown_fair w t s f fair edge = record {
 abbrev left_out : World → (ℕ → Bool) → ℕ → Bool
 left_out w t x = is_live w x && not (t x)
 
+-- With one file more in the test, fewer are left out.
 left_fewer : (w : World) (t : ℕ → Bool) (f : ℕ) (ks : List ℕ) → IsLive w f → t f ≡ false → Contains ks f → count_by (left_out w (grown f t)) ks < count_by (left_out w t) ks
 left_fewer w t f ks live miss among = fewer (left_out w t) (left_out w (grown f t)) weaker f here gone ks among where
   turned : (a b c : Bool) → (a && not (b || c)) ≡ true → (a && not b) ≡ true
@@ -118,6 +120,7 @@ decides_within (suc n) w t ks whole among fair few = elim (opens_or_not w t ks) 
 in_table : World → ℕ → Bool
 in_table w f = not (nat_eq (tabled w f) 0)
 
+-- The test for files in tables is fair.
 in_table_fair : (w : World) → IsFair w (in_table w)
 unfolding in_table
 in_table_fair w = record {

@@ -36,6 +36,7 @@ outcome_next now old new o leads frugal answer r h = by o leads frugal h where
   by None leads false (inl h) = settled (leads refl) h.1
   by None leads false (inr h) = same h.1
 
+-- A whole pass lowers no next number.
 pass_next : (p : Pass) (old new : Machine) (r : Reply) → PassesWhole p old r new → old.world.next_ino ≤ new.world.next_ino
 pass_next Idle old new r h = omega (arith, ap (λ w. w.next_ino) h.0.purged.2)
 pass_next (Running begun spent) old new r h = omega (arith, ap (λ m. m.world.next_ino) h.1)
@@ -45,6 +46,7 @@ begin_next : (p : Pass) (old new : Machine) (r : Reply) → Begins p old r new �
 begin_next Idle old new r h = omega (arith, ap (λ m. m.world.next_ino) h.1)
 begin_next (Running begun spent) old new r h = omega (arith, ap (λ m. m.world.next_ino) h.1)
 
+-- A slice lowers none.
 slice_next : (p : Pass) (old new : Machine) (b : ℕ) (r : Reply) → GoesOn p old b r new → old.world.next_ino ≤ new.world.next_ino
 slice_next Idle old new b r h = omega (arith, ap (λ m. m.world.next_ino) h.1)
 slice_next (Running begun spent) old new b r h = elim (slice-by begun spent b old new r h) [
@@ -52,6 +54,7 @@ slice_next (Running begun spent) old new b r h = elim (slice-by begun spent b ol
   | inr made ↦ omega (arith, ap (λ w. w.next_ino) made.0.purged.2)
 ]
 
+-- No event lowers it.
 pub event_next : (old new : Machine) (e : Event) (r : Reply) → IsWhole old.world → MachineStep old e r new → old.world.next_ino ≤ new.world.next_ino
 event_next old new (event.Spawn uid nofile privileged) r whole h =
     outcome_next (spawned old.world uid nofile privileged) old.world new.world (spawn_refusal old.world nofile) (spawn-changes old.world uid nofile privileged) false (reply.Pid old.world.next_pid) r h.0
@@ -61,6 +64,7 @@ event_next old new event.Begin r whole h = begin_next old.pass old new r h
 event_next old new (event.Slice b) r whole h = slice_next old.pass old new b r h
 event_next old new event.Pass r whole h = pass_next old.pass old new r h
 
+-- On no run is a given number reached that was not.
 never : (old new : Machine) (log : List RunEntry) → IsSound old.world → Run old log new → (f : ℕ) → f < old.world.next_ino → ¬ (Reached old.world f) → ¬ (Reached new.world f)
 never old new [] sound run f given out d = out (subst (λ m. Reached m.world f) run d)
 never old new (e ∷ log) sound run f given out d =

@@ -75,6 +75,7 @@ slice_some (Running begun spent) old b has = by (nat_eq b 0 || nat_lt MAX_BUDGET
   by true e = (reply.Refused EINVAL, old, (refl, refl))
   by false e = (reply.Working, after, (record { emptied_files = []; few = omega arith; of_garbage = All-nil (Garbage begun); purged = s.1; answered = inl (refl, refl, within e) }, refl, refl))
 
+-- The machine with this world.
 abbrev with_world : Machine → World → Machine
 with_world m w = record m { world = w }
 
@@ -117,10 +118,12 @@ answers w p (step.Peek n max_bytes max_fds) = either _ _ _ _ _
 answers w p s = refl
 
 module _ (answer : Reply) (given : is_refused answer ≡ false) (now old a b : World) (r : Reply) where
+  -- An answer that is no refusal differs from one.
   apart : (e : Errno) → r ≡ answer → r ≡ reply.Refused e → ⊥
   unfolding is_refused
   apart e x y = false≢true (sym given ∙ ap is_refused (sym x ∙ y))
 
+  -- An outcome with its reply leads to one world.
   outcome_one : (o : Option Errno) (frugal : Bool) → Outcome o frugal answer now old r a → Outcome o frugal answer now old r b → a ≡ b
   outcome_one (Some e) frugal x y = x.1 ∙ sym y.1
   outcome_one None true x y = settles_once now a b x.1 y.1
@@ -129,6 +132,7 @@ module _ (answer : Reply) (given : is_refused answer ≡ false) (now old a b : W
   outcome_one None false (inr x) (inl y) = absurd (apart ENOMEM y.0 x.0)
   outcome_one None false (inr x) (inr y) = x.1 ∙ sym y.1
 
+-- Machines with equal parts are equal.
 same_machine : (a b : Machine) → a.world ≡ b.world → a.pass ≡ b.pass → a.last_pass ≡ b.last_pass → a.since ≡ b.since → a ≡ b
 same_machine a b x y z s = λ i. record { world = x i; pass = y i; last_pass = z i; since = s i }
 
@@ -138,6 +142,7 @@ passes_one w a b n r s x y =
     let same : (f : ℕ) → x.test f ≡ y.test f = λ f. both_ways (x.test f) (y.test f) (λ e. (y.is_garbage f).1 ((x.is_garbage f).0 e)) (λ e. (x.is_garbage f).1 ((y.is_garbage f).0 e)) in
     settles_once (emptied y.test w) a b (subst (λ t. Purges t w a) (λ i f. same f i) x.purged) y.purged
 
+-- A whole pass with its reply leads to one machine.
 pass_one : (p : Pass) (old a b : Machine) (r : Reply) → PassesWhole p old r a → PassesWhole p old r b → a ≡ b
 unfolding is_refused
 pass_one Idle old a b r x y = same_machine a b (passes_one old.world a.world b.world _ r r x.0 y.0) (x.1 ∙ sym y.1) (x.2 ∙ sym y.2) (x.3 ∙ sym y.3)
@@ -158,10 +163,12 @@ replies_determine old a b event.Begin r none x y = begin_one old.pass old a b r 
 replies_determine old a b (event.Slice n) r none x y = absurd none
 replies_determine old a b event.Pass r none x y = pass_one old.pass old a b r x y
 
+-- Ok is no refusal.
 pub ok_is_done : is_refused reply.Ok ≡ false
 unfolding is_refused
 ok_is_done = refl
 
+-- A descriptor is no refusal.
 pub number_is_done : (n : ℕ) → is_refused (reply.Fd n) ≡ false
 unfolding is_refused
 number_is_done n = refl
@@ -174,6 +181,7 @@ outcome_done None true answer now old r new given h = (refl, h.0, h.1)
 outcome_done None false answer now old r new given (inl h) = (refl, h.0, h.1)
 outcome_done None false answer now old r new given (inr h) = absurd (false≢true (sym given ∙ ap is_refused h.0))
 
+-- A refused outcome changes nothing.
 outcome_refused : (answer : Reply) → is_refused answer ≡ false → (now old new : World) (error : Errno) (o : Option Errno) (frugal : Bool) → Outcome o frugal answer now old (reply.Refused error) new → new ≡ old
 unfolding is_refused
 outcome_refused answer given now old new error (Some e) frugal h = h.1
@@ -181,6 +189,7 @@ outcome_refused answer given now old new error None true h = absurd (false≢tru
 outcome_refused answer given now old new error None false (inl h) = absurd (false≢true (sym given ∙ ap is_refused (sym h.0)))
 outcome_refused answer given now old new error None false (inr h) = h.1
 
+-- A refused pass changes nothing.
 pass_refused : (p : Pass) (old new : Machine) (error : Errno) → PassesWhole p old (reply.Refused error) new → new ≡ old
 unfolding is_refused
 pass_refused Idle old new error h = absurd (false≢true (sym (ap is_refused h.0.answered)))
@@ -220,6 +229,7 @@ log_determines old a b (e ∷ log) none x y =
     let same : x.0 ≡ y.0 = replies_determine old x.0 y.0 e.0 e.1 (All-head (λ (x : RunEntry). LeavesNoChoice x.0) e log none) x.1 y.1 in
     log_determines y.0 a b log (All-tail (λ (x : RunEntry). LeavesNoChoice x.0) e log none) (subst (λ m. Run m log a) same x.2) y.2
 
+-- A run of two lists joined is a run of the first and one of the second.
 run_split : (old new : Machine) (first second : List RunEntry) → Run old (first ++ second) new → (mid : Machine) × Run old first mid × Run mid second new
 run_split old new [] second run = (old, refl, run)
 run_split old new (e ∷ first) second run =
@@ -239,6 +249,7 @@ events_keep_sound old new event.Begin r sound h = sound-begins old.pass old new 
 events_keep_sound old new (event.Slice b) r sound h = sound-slice old.pass old new b r sound h
 events_keep_sound old new event.Pass r sound h = sound-pass old.pass old new r sound h
 
+-- A run from a sound world leads to a sound one.
 run_sound : (old new : Machine) (log : List RunEntry) → IsSound old.world → Run old log new → IsSound new.world
 run_sound old new [] sound run = subst (λ m. IsSound m.world) (sym run) sound
 run_sound old new (e ∷ log) sound run = run_sound run.0 new log (events_keep_sound old run.0 e.0 e.1 sound run.1) run.2

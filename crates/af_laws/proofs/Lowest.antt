@@ -21,9 +21,11 @@ first_or_rest x xs k h = elim (Contains-append_cases (x ∷ []) xs k h) [
   only (suc n, l, e) = absurd (omega (arith, l))
 
 module _ (test : ℕ → Bool) where
+  -- The numbers of a range that pass.
   abbrev passing : ℕ → ℕ → List ℕ
   passing a n = filter test (range_with_len a n)
 
+  -- They and one number before them, if it passes.
   abbrev step : Bool → ℕ → ℕ → List ℕ
   step b a n = cond b (a ∷ passing (a + 1) n) (passing (a + 1) n)
 
@@ -67,6 +69,7 @@ module _ (test : ℕ → Bool) where
   abbrev Rises : List ℕ → Type 0
   Rises xs = (i j : ℕ) → i < j → j < length xs → slice_index_or xs i 0 < slice_index_or xs j 0
 
+  -- The first ones of those behind a number are above it.
   all_above : (a n d j : ℕ) → j < length (take d (passing (a + 1) n)) → a < slice_index_or (take d (passing (a + 1) n)) j 0
   all_above a n d j h =
       let xs : List ℕ = passing (a + 1) n in
@@ -74,6 +77,7 @@ module _ (test : ℕ → Bool) where
       let within : Contains xs x = subst (λ ys. Contains ys x) (take-append-drop d xs) (Contains-append_left (take d xs) (drop d xs) x (Contains-get_or (take d xs) j 0 h)) in
       omega (arith, (is_passing (a + 1) n x within).0)
 
+  -- The first ones rise.
   rises : (a n c : ℕ) → Rises (take c (passing a n))
   rises a zero c = nothing c where
     nothing : (c : ℕ) → Rises (take c [])
@@ -89,6 +93,7 @@ module _ (test : ℕ → Bool) where
       more zero (suc j) l h = all_above a n c j (omega (arith, h))
       more (suc i) (suc j) l h = rest c i j (omega (arith, l)) (omega (arith, h))
 
+-- Whether the number is not open.
 abbrev is_free : Process → ℕ → Bool
 is_free p n = not (map.contains_key p.table n)
 

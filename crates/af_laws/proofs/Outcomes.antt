@@ -33,19 +33,23 @@ cycles_stay w cycle held f e u = none f u e where
 pub unplaced_is_unheld : UnplacedIsUnheld
 unplaced_is_unheld w f l none = Goes f l (λ t. none (inl t)) (λ s h. absurd (none (inr (s, h))))
 
+-- A value together with `true` is that value.
 and_true : (b : Bool) → b ≡ (b && true)
 and_true true = refl
 and_true false = refl
 
+-- Both values are true if they are together.
 both : (a b : Bool) → (a && b) ≡ true → (a ≡ true) × (b ≡ true)
 both true b e = (refl, e)
 both false b e = absurd (false≢true e)
 
+-- They are together true if each is.
 each : (a b : Bool) → a ≡ true → b ≡ true → (a && b) ≡ true
 each true b d e = e
 each false b d e = d
 
 module _ (w new : World) (f : ℕ) (live : IsLive w f) (no_table : ¬ (InTable w f)) (no_holder : (s : ℕ) → ¬ (Holds w s f)) (s : Settles w new) where
+  -- The world without f.
   abbrev rest : World
   rest = without (nat_eq f) w
 
@@ -53,9 +57,11 @@ module _ (w new : World) (f : ℕ) (live : IsLive w f) (no_table : ¬ (InTable w
   abbrev gone : ℕ → Bool
   gone g = s.0 g && not (nat_eq f g)
 
+  -- A number does not both equal f and differ from it.
   apart : (g : ℕ) → nat_eq f g ≡ true → not (nat_eq f g) ≡ true → ⊥
   apart g d e = false≢true (sym (ap not d) ∙ e)
 
+  -- Each other file that is freed is unheld without f.
   goes : (g : ℕ) → gone g ≡ true → Unheld rest g
   goes g e =
       let h = both _ _ e in
@@ -64,18 +70,22 @@ module _ (w new : World) (f : ℕ) (live : IsLive w f) (no_table : ¬ (InTable w
         | inr u ↦ u
       ]
 
+  -- A file that is unheld without f is another.
   differs : (g : ℕ) → Unheld rest g → not (nat_eq f g) ≡ true
   differs _ (Goes g l t hs) = ap not (stays _ _ (sym (live-without (nat_eq f) w g) ∙ l)).0
 
+  -- It is freed.
   went : (g : ℕ) → Unheld rest g → gone g ≡ true
   went g u = each _ _ ((s.1 g).1 (goes_up w f live no_table no_holder g u)) (differs g u)
 
+  -- The freed files are f and the others.
   same : (g : ℕ) → s.0 g ≡ (nat_eq f g || gone g)
   same g = by (nat_eq f g) refl where
     by : (b : Bool) → nat_eq f g ≡ b → s.0 g ≡ (b || (s.0 g && not b))
     by true e = (s.1 g).1 (subst (Unheld w) (eqb-true f g e) (first_goes w f live no_table no_holder))
     by false e = and_true (s.0 g)
 
+  -- The world without f settles to the same.
   rest_settles : Settles rest new
   rest_settles = (gone, λ g. (goes g, went g), s.2 ∙ (λ i. without (λ g. same g i) w) ∙ sym (without-without (nat_eq f) gone w))
 

@@ -70,6 +70,7 @@ module _ (w : World) (p n max_bytes max_fds : ℕ) where
   there : refusal w p (step.Peek n max_bytes max_fds) ≡ None → map.get w.processes p ≡ Some (process_at w p)
   there none = process-there w p (none-fits ((not (map.contains_key w.processes p), ESRCH) ∷ recv_row w p n max_bytes) none).here
 
+  -- The effect of a peek is settled.
   peeked-settled : IsSettled w → refusal w p (step.Peek n max_bytes max_fds) ≡ None → IsSettled (effect w p (step.Peek n max_bytes max_fds))
   peeked-settled s none = settled-install_all w p (process_at w p) (got_at w p n max_bytes max_fds) (taken_on w p n max_bytes).attached s (there none) free
 
@@ -91,6 +92,7 @@ module _ (w : World) (p n max_bytes max_fds : ℕ) where
       let s = unwrap_or (option_and_then (λ f. option_and_then socket_of (map.get (files i) f)) (number i)) no_socket in
       take_from s.kind s.queue asked
 
+  -- A receive takes after a peek what it took before.
   peeked-taken : (r : Reply) (new : World) → IsSettled w → ProcessStep w p (step.Peek n max_bytes max_fds) r new → (asked : ℕ) → taken_on new p n asked ≡ taken_on w p n asked
   peeked-taken r new s out asked = leads (λ v. taken_on v p n asked ≡ taken_on w p n asked) (refusal w p (step.Peek n max_bytes max_fds)) false _ (effect w p (step.Peek n max_bytes max_fds)) w r new refl
       (λ none. (peeked-settled s none, same-taken (effect w p (step.Peek n max_bytes max_fds)) asked (same-files w p given) (peeked-number none))) out

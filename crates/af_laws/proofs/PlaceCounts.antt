@@ -37,6 +37,7 @@ holds_in_queue_or_backlog w s f = either (map.get w.files s) where
     ],
   )
 
+-- A number is 0, or above it.
 pub none_or_some : (n : ℕ) → (n ≡ 0) ⊎ (0 < n)
 none_or_some n = elim (cases_lt 0 n) [ inl p ↦ inr p | inr p ↦ inl (omega (arith, p)) ]
 
@@ -61,12 +62,14 @@ none_where_untabled w f = (
   ],
 )
 
+-- A file in a queue is counted in flight.
 in_flight_counted : (w : World) (s f : ℕ) → InQueue w s f → 0 < inflight w f
 in_flight_counted w s f h = by (map.get w.files s) refl h where
   by : (o : Option File) → map.get w.files s ≡ o → Contains (attached_in (option_map_or queue_of o [])) f → 0 < inflight w f
   by None e h = absurd (none_in f h)
   by (Some x) e h = omega (arith, total-has (λ x. count_in f (attached_in (queue_of x))) w.files s x e, count-Contains f (attached_in (queue_of x)) h)
 
+-- A file that is counted in flight is in a queue.
 counted_in_flight : (w : World) (f : ℕ) → 0 < inflight w f → (s : ℕ) × InQueue w s f
 counted_in_flight w f p =
     let at = total-some (λ x. count_in f (attached_in (queue_of x))) w.files p in
@@ -81,12 +84,14 @@ none_where_not_in_flight w f = (
   ],
 )
 
+-- A file in a backlog is counted there.
 waiting_counted : (w : World) (s f : ℕ) → InBacklog w s f → 0 < waiting w f
 waiting_counted w s f h = by (map.get w.files s) refl h where
   by : (o : Option File) → map.get w.files s ≡ o → Contains (option_map_or backlog_of o []) f → 0 < waiting w f
   by None e h = absurd (none_in f h)
   by (Some x) e h = omega (arith, total-has (λ x. count_in f (backlog_of x)) w.files s x e, count-Contains f (backlog_of x) h)
 
+-- A file that is counted in backlogs is in one.
 counted_waiting : (w : World) (f : ℕ) → 0 < waiting w f → (s : ℕ) × InBacklog w s f
 counted_waiting w f p =
     let at = total-some (λ x. count_in f (backlog_of x)) w.files p in
@@ -136,6 +141,7 @@ receive_counts w s f m rest x there is = let left = sym (ap attached_in is) in (
 
 -- The sum over a queue with a message more, and with one less.
 module _ (F : Message → ℕ) (w : World) (s : ℕ) (m : Message) (x : Socket) (there : map.get w.files s ≡ Some (AsSocket x)) where
+  -- The sum is greater by the message.
   queues-push : total_of (λ y. sum_by F (queue_of y)) (push_message w s m).files ≡ total_of (λ y. sum_by F (queue_of y)) w.files + F m
   queues-push =
       omega (
@@ -145,6 +151,7 @@ module _ (F : Message → ℕ) (w : World) (s : ℕ) (m : Message) (x : Socket) 
         sum_by-cons F m [],
       )
 
+  -- The sum is less by the message.
   queues-pop : (rest : List Message) → x.queue ≡ m ∷ rest → total_of (λ y. sum_by F (queue_of y)) (with_queue w s rest).files + F m ≡ total_of (λ y. sum_by F (queue_of y)) w.files
   queues-pop rest is =
       omega (
@@ -158,6 +165,7 @@ module _ (F : Message → ℕ) (w : World) (s : ℕ) (m : Message) (x : Socket) 
 charge-named : (m : Message) → charge m.user m ≡ length m.attached
 charge-named m = ap (λ b. cond b (length m.attached) 0) (eq-eqb m.user m.user refl)
 
+-- A message charges no other user.
 charge-other : (u : ℕ) (m : Message) → u ≢ m.user → charge u m ≡ 0
 charge-other u m apart = ap (λ b. cond b (length m.attached) 0) (told_apart u m.user apart)
 

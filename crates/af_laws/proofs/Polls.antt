@@ -27,6 +27,7 @@ module _ (w : World) (p n f : ℕ) (s : Socket) (sound : IsSound w) (stands : ta
   socket-there : socket_at w (ino_on w p n) ≡ Some s
   socket-there = ap (λ o. socket_at w (unwrap_or o 0)) stands ∙ is
 
+  -- The socket at the descriptor is s.
   socket-is : socket_on w p n ≡ s
   socket-is = ap (λ o. unwrap_or (option_and_then (socket_at w) o) no_socket) stands ∙ ap (λ o. unwrap_or o no_socket) is
 
@@ -39,13 +40,16 @@ module _ (w : World) (p n f : ℕ) (s : Socket) (sound : IsSound w) (stands : ta
   no-more : nat_lt MAX_INFLIGHT (total w + 0) ≡ false
   no-more = let few = sound.within.flying in grind (arith, few)
 
+  -- The socket is readable exactly if steps find it so.
   read : reads s ≡ (found w p n).readable
   read = λ i. is_none (sym (left (λ x. on_receive x 1)) i) || is_none (sym (left on_accept) i)
 
+  -- The tests of a send of a byte are those of the peer and its room.
   send : refusal w p (step.Send n (0 ∷ []) []) ≡ first_fit (on_peer s ++ on_room (queue_at w (peer_of s.state)))
   send = left (λ x. on_peer x ++ (nat_lt MAX_INFLIGHT (total w + 0), ENOBUFS) ∷ on_room (queue_at w (peer_of x.state)))
       ∙ (λ i. first_fit (on_peer s ++ (no-more i, ENOBUFS) ∷ on_room (queue_at w (peer_of s.state))))
 
+  -- The file is the socket s.
   file-is : map.get w.files f ≡ Some (AsSocket s)
   file-is = by (map.get w.files f) is where
     by : (o : Option File) → option_and_then socket_of o ≡ Some s → o ≡ Some (AsSocket s)

@@ -9,6 +9,7 @@ use Rattle.af_laws.specs.Purging.{PurgesBoth, PurgesInAnyOrder}
 pub purges_both : PurgesBoth
 purges_both some others w v new first second = all_at_once some others w v new first second
 
+-- The order of two tests does not matter.
 or_turned : (a b : Bool) → (a || b) ≡ (b || a)
 or_turned true b = sym (or-true b)
 or_turned false true = refl

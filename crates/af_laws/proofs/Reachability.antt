@@ -26,6 +26,7 @@ use Rattle.af_laws.specs.Reaching.{GarbageStaysOutOfReach, SpawnReachesNoGarbage
 -- Where each place of a world is one of the old, or holds what was reached or is new, a chain leads
 -- to what was reached or is new.
 module _ (old now : World) (whole : IsWhole old) (tables : (f : ℕ) → InTable now f → IsKnown old f) (holders : (s f : ℕ) → Holds now s f → Holds old s f ⊎ IsKnown old f) where
+  -- What is reachable now was reachable or is new.
   reached_or_new : (f : ℕ) → Reached now f → IsKnown old f
   reached_or_new _ (ByTable f t) = tables f t
   reached_or_new _ (BySocket s f r h) = elim (holders s f h) [
@@ -36,6 +37,7 @@ module _ (old now : World) (whole : IsWhole old) (tables : (f : ℕ) → InTable
     ]
   ]
 
+-- Each file that is reachable now was reachable or is new.
 abbrev Leads : World → World → Type 0
 Leads old now = (f : ℕ) → Reached now f → IsKnown old f
 
@@ -62,28 +64,34 @@ changes_lead old now whole c = let k = from_places old now c.places in reached_o
 
 -- Whatever the outcome.
 module _ (old now new : World) where
+  -- It is so after settling, if it was before.
   settled_leads : Leads old now → Settles now new → Leads old new
   settled_leads leads t f r = leads f (reached_before now new t f r)
 
+  -- It is so where nothing changed.
   same_leads : new ≡ old → Leads old new
   same_leads e f r = inl (subst (λ x. Reached x f) e r)
 
+  -- It is so of an outcome, if it is of the effect.
   outcome_leads : (o : Option Errno) → (o ≡ None → Leads old now) → (frugal : Bool) (answer r : Reply) → Outcome o frugal answer now old r new → Leads old new
   outcome_leads (Some e) leads frugal answer r h = same_leads h.1
   outcome_leads None leads true answer r h = settled_leads (leads refl) h.1
   outcome_leads None leads false answer r (inl h) = settled_leads (leads refl) h.1
   outcome_leads None leads false answer r (inr h) = same_leads h.1
 
+-- Then a given number that is reachable was reachable.
 pub numbered_leads : (old new : World) → Leads old new → (f : ℕ) → f < old.next_ino → Reached new f → Reached old f
 numbered_leads old new leads f known r = elim (leads f r) [
   | inl d ↦ d
   | inr n ↦ absurd (omega (arith, n, known))
 ]
 
+-- It is so of a process's start.
 spawn_step_leads : (old new : World) (uid nofile : ℕ) (privileged : Bool) (r : Reply) → IsWhole old → SpawnStep old uid nofile privileged r new → Leads old new
 spawn_step_leads old new uid nofile privileged r whole h =
     outcome_leads old (spawned old uid nofile privileged) new (spawn_refusal old nofile) (λ none. changes_lead old (spawned old uid nofile privileged) whole (spawn-changes old uid nofile privileged none)) false (reply.Pid old.next_pid) r h
 
+-- It is so of a process's step.
 process_step_leads : (old new : World) (p : ℕ) (s : Step) (r : Reply) → IsWhole old → ProcessStep old p s r new → Leads old new
 process_step_leads old new p s r whole h =
     outcome_leads old (effect old p s) new (refusal old p s) (λ none. changes_lead old (effect old p s) whole (effect-changes old p s whole none)) (needs_no_memory s) (answer old p s) r h
@@ -96,6 +104,7 @@ pub step_reaches_no_garbage : StepReachesNoGarbage
 step_reaches_no_garbage old new p s r whole h f live =
     numbered_leads old new (process_step_leads old new p s r whole h) f (whole.files_numbered f live)
 
+-- It is so of a whole pass.
 pass_leads : (p : Pass) (old new : Machine) (r : Reply) → PassesWhole p old r new → Leads old.world new.world
 pass_leads Idle old new r h f d = inl ((purging_keeps_reached old.world new.world h.0.test (λ g e. (h.0.is_garbage g).0 e) h.0.purged f).1 d)
 pass_leads (Running begun spent) old new r h f d = inl (subst (λ m. Reached m.world f) h.1 d)
@@ -113,6 +122,7 @@ slice_leads (Running begun spent) old new b r h f d = elim (slice-by begun spent
   | inr made ↦ inl (purging_reaches_nothing old.world new.world _ made.0.purged f d)
 ]
 
+-- It is so of each event.
 pub event_leads : (old new : Machine) (e : Event) (r : Reply) → IsWhole old.world → MachineStep old e r new → Leads old.world new.world
 event_leads old new (event.Spawn uid nofile privileged) r whole h = spawn_step_leads old.world new.world uid nofile privileged r whole h.0
 event_leads old new (event.Proc p s) r whole h = process_step_leads old.world new.world p s r whole h.0

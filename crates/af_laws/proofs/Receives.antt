@@ -46,6 +46,7 @@ one-keeps : (kind : SockType) (q : List Message) (n : ℕ) → HaveBytes q → (
 one-keeps Seqpacket q n h = packet_keeps_files q n
 one-keeps Stream q n h = stream-files q n h
 
+-- Receives keep all files.
 all-keep : (kind : SockType) (ns : List ℕ) (q : List Message) → HaveBytes q → (takes kind ns q).attached ++ attached_in (takes kind ns q).rest ≡ attached_in q
 all-keep kind [] q h = refl
 all-keep kind (n ∷ ns) q h =
@@ -113,6 +114,7 @@ nearer x q h = elim (one-left x q h) [
 cut-past : (c : ℕ) (x : Message) (q : List Message) → length x.bytes ≤ c → cut c (x ∷ q) ≡ cut (c - length x.bytes) q
 cut-past c x q p = ap (λ b. cond b (cut (c - length x.bytes) q) (cond (nat_lt 0 c) (record x { bytes = drop c x.bytes; attached = [] } ∷ q) (x ∷ q))) (le-leb _ _ p)
 
+-- Fewer bytes than the first message has are cut off that message.
 cut-short : (c : ℕ) (x : Message) (q : List Message) → 0 < c → c < length x.bytes → cut c (x ∷ q) ≡ record x { bytes = drop c x.bytes; attached = [] } ∷ q
 cut-short c x q some p =
     ap (λ b. cond b (cut (c - length x.bytes) q) (cond (nat_lt 0 c) (record x { bytes = drop c x.bytes; attached = [] } ∷ q) (x ∷ q))) (lt-leb _ _ p)
@@ -142,6 +144,7 @@ cut-next c (x ∷ q) h = elim (one-left x q h) [
   ]
 ]
 
+-- One byte, and then more of what is left, are the first bytes.
 taken-next : (c : ℕ) (q : List Message) → take 1 (joined q) ++ take c (joined (cut 1 q)) ≡ take (suc c) (joined q)
 taken-next c q =
     let next : 1 + c ≡ suc c = omega arith in
@@ -151,9 +154,11 @@ taken-next c q =
 abbrev files : List Message → List ℕ
 files q = option_map_or (λ m. m.attached) (find has_files q) []
 
+-- Past the bytes before the files a receive brings them.
 brought-past : (q : List Message) (c : ℕ) → before q < c → brought q c ≡ files q
 brought-past q c p = ap (λ b. cond b (files q) []) (lt-ltb _ _ p)
 
+-- Up to there it brings none.
 brought-none : (q : List Message) (c : ℕ) → c ≤ before q → brought q c ≡ []
 brought-none q c p = ap (λ b. cond b (files q) []) (le-ltb _ _ p)
 
@@ -186,6 +191,7 @@ one-byte (x ∷ q) h c p = elim (cases_Bool (has_files x)) [
   near : (1 + before left ≡ length x.bytes + before q) × (find has_files left ≡ find has_files q)
   near = nearer x q h
 
+-- Results with equal parts are equal.
 same_together : (a b : Together) → a.bytes ≡ b.bytes → a.attached ≡ b.attached → a.rest ≡ b.rest → a ≡ b
 same_together a b x y z = λ i. record { bytes = x i; attached = y i; rest = z i }
 
@@ -193,6 +199,7 @@ same_together a b x y z = λ i. record { bytes = x i; attached = y i; rest = z i
 abbrev followed : Together → Together → Together
 followed a b = record { bytes = a.bytes ++ b.bytes; attached = a.attached ++ b.attached; rest = b.rest }
 
+-- Receives of one byte take what one receive takes.
 bytewise : (c : ℕ) (q : List Message) → HaveBytes q → c ≤ end q → takes Stream (replicate c 1) q ≡ first q c
 bytewise zero q h p = same_together (takes Stream [] q) (first q 0) refl (sym (brought-none q 0 (omega arith))) (sym (cut_none q h))
 bytewise (suc c) q h p =

@@ -17,6 +17,7 @@ use Rattle.af_laws.specs.Settling.{SettlesToSome}
 
 -- A test that fails where another passes passes less often.
 module _ (p q : ℕ → Bool) (weaker : (x : ℕ) → q x ≡ true → p x ≡ true) where
+  -- On one number it counts no more.
   one_less : (x : ℕ) → cond {A = ℕ} (q x) 1 0 ≤ cond {A = ℕ} (p x) 1 0
   one_less x = by (q x) refl (p x) refl where
     by : (a : Bool) → q x ≡ a → (b : Bool) → p x ≡ b → cond {A = ℕ} a 1 0 ≤ cond {A = ℕ} b 1 0
@@ -24,6 +25,7 @@ module _ (p q : ℕ → Bool) (weaker : (x : ℕ) → q x ≡ true → p x ≡ t
     by true d true e = omega arith
     by true d false e = absurd (false≢true (sym e ∙ weaker x d))
 
+  -- On a list it counts no more.
   not_more : (xs : List ℕ) → count_by q xs ≤ count_by p xs
   not_more [] = omega arith
   not_more (x ∷ xs) = omega (arith, sum_by-cons (λ y. cond {A = ℕ} (q y) 1 0) x xs, sum_by-cons (λ y. cond {A = ℕ} (p y) 1 0) x xs, one_less x, not_more xs)
@@ -63,6 +65,7 @@ unplaced_or_not w (k ∷ ks) = by (none_or_some (refs w k)) (cases_Bool (is_live
 still_live : (w : World) (f x : ℕ) → IsLive (without (nat_eq f) w) x → IsLive w x
 still_live w f x l = (stays _ _ (sym (live-without (nat_eq f) w x) ∙ l)).1
 
+-- Without a live file fewer are live.
 fewer_live : (w : World) (f : ℕ) (ks : List ℕ) → IsLive w f → Contains ks f → count_by (is_live (without (nat_eq f) w)) ks < count_by (is_live w) ks
 fewer_live w f ks live among =
     fewer (is_live w) (is_live (without (nat_eq f) w)) (still_live w f) f live (live-without (nat_eq f) w f ∙ ap (λ b. cond (not b) (is_live w f) false) (eq-eqb f f refl)) ks among

@@ -25,6 +25,7 @@ packet_tells_of_drops m q n = (
   λ p. lt-ltb n (length m.bytes) (omega (arith, length-drop n m.bytes, p)),
 )
 
+-- To drop more than the first list drops from the second.
 drop_past : (xs ys : List ℕ) (c : ℕ) → length xs ≤ c → drop c (xs ++ ys) ≡ drop (c - length xs) ys
 drop_past xs ys c h =
     let whole : length xs + (c - length xs) ≡ c = omega (arith, h) in
@@ -59,6 +60,7 @@ first_within (x ∷ q) m e = elim (cases_Bool (has_files x)) [
   | inr t ↦ omega (arith, before-later x q t, first_within q m (sym (find-later x q t) ∙ e), length-append x.bytes (joined q))
 ]
 
+-- The bytes before the files are among all.
 pub before_within : (q : List Message) → before q ≤ length (joined q)
 before_within [] = omega arith
 before_within (x ∷ q) = elim (cases_Bool (has_files x)) [

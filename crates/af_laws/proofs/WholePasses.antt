@@ -34,6 +34,7 @@ module _ (old new : World) (test : ℕ → Bool) (apart : (f : ℕ) → test f �
         whole None = refl
         whole (Some x) = refl
 
+  -- What was reachable is as it was.
   pub spared : SparesReached old new
   spared = record {
     tables = ap (λ w. w.processes) purged.2;
@@ -57,6 +58,7 @@ module _ (old new : World) (test : ℕ → Bool) (apart : (f : ℕ) → test f �
 
 -- A world whose garbage is purged.
 module _ (old new : World) (test : ℕ → Bool) (garbage : (f : ℕ) → (test f ≡ true) ↔ Garbage old f) (purged : Purges test old new) where
+  -- What passes the test is garbage.
   is_garbage : (f : ℕ) → test f ≡ true → Garbage old f
   is_garbage f e = (garbage f).0 e
 
@@ -72,9 +74,11 @@ module _ (old new : World) (test : ℕ → Bool) (garbage : (f : ℕ) → (test 
       let left = stays _ _ (sym (ap (λ w. is_some (map.get w.files f)) purged.2 ∙ live-without purged.0 (emptied test old) f) ∙ l) in
       (left.0, sym (live-emptied test old f) ∙ left.1)
 
+  -- None of the garbage is live afterwards.
   pub released : (f : ℕ) → Garbage old f → ¬ (IsLive new f)
   released f g l = false≢true (sym (stayed f l).0 ∙ (purged.1 f).1 (goes f g))
 
+  -- No garbage is left.
   none_left : (f : ℕ) → ¬ (Garbage new f)
   none_left f g = released f ((stayed f g.0).1, λ r. g.1 ((purging_keeps_reached old new test is_garbage purged f).0 r)) g.0
 
@@ -82,6 +86,7 @@ module _ (old new : World) (test : ℕ → Bool) (garbage : (f : ℕ) → (test 
 pub spares_all : (old new : Machine) → new ≡ old → SparesReached old.world new.world
 spares_all old new e = subst (λ m. SparesReached old.world m.world) (sym e) (record { tables = refl; live = λ f r l. l; queues = λ f r. refl; backlogs = λ f r. refl })
 
+-- A whole pass spares what is reachable.
 spares_by : (p : Pass) (old new : Machine) (r : Reply) → PassesWhole p old r new → SparesReached old.world new.world
 spares_by Idle old new r h = spared old.world new.world h.0.test (λ f e. ((h.0.is_garbage f).0 e).1) h.0.purged
 spares_by (Running begun spent) old new r h = spares_all old new h.1
@@ -93,6 +98,7 @@ pass_spares_the_reached old new r h = spares_by old.pass old new r h
 done_refused : (pass count : ℕ) (e : Errno) → reply.Done pass count ≡ reply.Refused e → ⊥
 done_refused pass count e d = cc
 
+-- A whole pass that is done leaves no garbage.
 leaves_by : (p : Pass) (old new : Machine) (pass count : ℕ) → PassesWhole p old (reply.Done pass count) new → (f : ℕ) → ¬ (Garbage new.world f)
 leaves_by Idle old new pass count h = none_left old.world new.world h.0.test h.0.is_garbage h.0.purged
 leaves_by (Running begun spent) old new pass count h = absurd (done_refused pass count EBUSY h.0)
@@ -100,6 +106,7 @@ leaves_by (Running begun spent) old new pass count h = absurd (done_refused pass
 pub pass_leaves_no_garbage : PassLeavesNoGarbage
 pass_leaves_no_garbage old new pass count h = leaves_by old.pass old new pass count h
 
+-- A whole pass that is done has released the garbage of its begin.
 releases_by : (p : Pass) (old new : Machine) (pass count : ℕ) → PassesWhole p old (reply.Done pass count) new → (f : ℕ) → Garbage old.world f → ¬ (IsLive new.world f)
 releases_by Idle old new pass count h = released old.world new.world h.0.test h.0.is_garbage h.0.purged
 releases_by (Running begun spent) old new pass count h = absurd (done_refused pass count EBUSY h.0)
