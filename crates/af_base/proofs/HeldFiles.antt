@@ -45,7 +45,7 @@ held-dequeued w s q f h = elim (held-changed {A = ⊥} w s dequeued q f (λ x is
 
 -- After a receive, a held file was held.
 module _ (w : World) (s n : ℕ) (x : Socket) (at : map.get w.files s ≡ Some (AsSocket x)) where
-  -- What the receive leaves in the queue.
+  -- The messages that the receive leaves in the queue.
   abbrev rest : List Message
   rest = (take_from x.kind x.queue n).rest
 

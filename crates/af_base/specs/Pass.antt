@@ -18,7 +18,7 @@ pub data Pass : Type 0 where
   Running : (begun : World) → (spent : ℕ) → Pass
 
 -- The machine: the world, the pass, the number of the last pass (0 at first), and since when freed
--- files and changed readiness are told.
+-- files and changed readiness are listed.
 pub record Machine : Type 0 where
   pub world : World
   pub pass : Pass

@@ -1,5 +1,5 @@
--- What is told since the lists were last emptied: which files were freed, and whose readiness may
--- have changed. Definitions that name no manual page are this project's own.
+-- The lists of files that were freed, and of sockets whose readiness may have changed, since both
+-- were last emptied. Definitions that name no manual page are this project's own.
 use Rattle.std.specs.Prelude.{◌≡◌, ◌+◌, ℕ, Bool, true, List, IsTrue, is_some, nat_lt, if◌then◌else◌}
 use Rattle.std.specs.Option.{option_and_then}
 use Rattle.std.specs.FinMap as map

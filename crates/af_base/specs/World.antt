@@ -50,7 +50,7 @@ pub record World : Type 0 where
   pub next_pid : ℕ
   pub users : List ℕ
 
--- Whether changed readiness and freed files are told; the files when the lists were last emptied,
+-- Whether changed readiness and freed files are listed; the files when the lists were last emptied,
 -- and the next inode number then.
 pub record Since : Type 0 where
   pub changed : Bool
@@ -58,7 +58,7 @@ pub record Since : Type 0 where
   pub files : Map File
   pub next : ℕ
 
--- Nothing is told.
+-- Nothing is listed.
 abbrev pub untold : Since
 untold = record { changed = false; released = false; files = map.empty; next = 1 }
 

@@ -149,7 +149,7 @@ module _ (begun old : World) (x : ℕ) where
             subst (IsGarbageCount begun) m i.counted;
       }
 
-  -- Where tests agree but at x, no more live files of the begin pass.
+  -- Where tests agree but at x, at most as many live files of the begin pass.
   fewer : (p p' : ℕ → Bool) → ((f : ℕ) → nat_eq x f ≡ false → p' f ≡ p f) → live_count begun rest p' ≤ live_count begun old p
   fewer p p' same = count_le (λ e. is_live rest e.0 && p' e.0) (λ e. is_live old e.0 && p e.0) (map.entries begun.files) (λ e d.
       let parts = and_parts (is_live rest e.0) (p' e.0) d in

@@ -42,7 +42,7 @@ module _ (w : World) (s n : ℕ) (k : Tally) (h : IsExact w k) (some : 0 < n) (s
   abbrev m : Message
   m = received_at w s n
 
-  -- What it leaves in the queue.
+  -- The messages that it leaves in the queue.
   abbrev rest : List Message
   rest = (taken_at w s n).rest
 

@@ -34,7 +34,7 @@ known-sender w u k sender agrees = subst (λ v. IsTrue (is_user v k.users)) (sym
 -- For a message that may be put: what contracts say of the world that is shown (v) holds of the
 -- equal one that the store has (w).
 module _ (w v : World) (same : w ≡ v) (k : Tally) (m : Message) (h : IsExact w k) (user : IsOfProcess v m.user) (flying : total v + length m.attached ≤ MAX_INFLIGHT) (live : (f : ℕ) → Contains m.attached f → IsLive v f) where
-  -- With it no more is in flight than may be.
+  -- With it at most the limit is in flight.
   flies : total w + length m.attached ≤ MAX_INFLIGHT
   flies = subst (λ x. total x + length m.attached ≤ MAX_INFLIGHT) (sym same) flying
 

@@ -11,7 +11,7 @@ use Rattle.af_table.specs.Procs.{Procs}
 use Rattle.af_collect.specs.Agreement.{IsExact}
 
 -- The world, the size of each table, whether there is room for a message more, the marks of a pass,
--- and what is told since when.
+-- and the period of the lists.
 pub record HoldingsView : Type 0 where
   pub world : World
   pub rows : Map ℕ

@@ -20,8 +20,8 @@ AreKnown w m = (f : ℕ) → knows m f ≡ is_live w f
 abbrev pub below : ℕ → ℕ → Bool
 below n f = nat_lt f n
 
--- What both stages keep: the world comes from the begin (`IsSince`), only files of the begin are
--- marked, and each unit is counted.
+-- The invariant of both stages: the world comes from the begin (`IsSince`), only files of the begin
+-- are marked, and each unit is counted.
 pub record IsRunning (w begun : World) (m : MarksView) (c : PassProgress) : Type 0 where
   pub since : IsSince begun w m.bound
   pub marked : (f : ℕ) → is_marked m f ≡ true → IsLive begun f
@@ -29,7 +29,7 @@ pub record IsRunning (w begun : World) (m : MarksView) (c : PassProgress) : Type
       (below c.swept) c.looked
   pub low : m.bound ≤ w.next_ino
 
--- What a pass keeps while it marks.
+-- The invariant while a pass marks.
 pub record IsInMarking (w begun : World) (m : MarksView) (c : PassProgress) : Type 0 where
   pub running : IsRunning w begun m c
   pub marking : IsMarking begun w (is_marked m) (is_grey m) (below c.visited)
@@ -37,7 +37,7 @@ pub record IsInMarking (w begun : World) (m : MarksView) (c : PassProgress) : Ty
   pub none_reclaimed : c.reclaimed ≡ 0
   pub visited_low : c.visited ≤ m.bound
 
--- What a pass keeps while it sweeps.
+-- The invariant while a pass sweeps.
 pub record IsInSweeping (w begun : World) (m : MarksView) (c : PassProgress) : Type 0 where
   pub running : IsRunning w begun m c
   pub sweeping : IsSweeping begun w (is_marked m) (below c.swept) c.reclaimed

@@ -15,7 +15,7 @@ use Rattle.af_collect.specs.declared.progress.PassProgress.{PassProgress}
 use Rattle.af_collect.specs.declared.parts.Collector.{Collector}
 
 -- The world, the size of each table, whether there is room for a message more, the running pass,
--- its marks, its progress, and what is told since when.
+-- its marks, its progress, and the period of the lists.
 pub record StoreView : Type 0 where
   pub world : World
   pub rows : Map ℕ

@@ -8,7 +8,7 @@ use Rattle.af_base.specs.Told.{AreReleased, is_socket_in}
 use Rattle.af_base.specs.World.{Map, Since}
 use Rattle.af_desc.specs.FileTableView.{FileTableView}
 
--- What is told, and the files when the lists were last emptied.
+-- The period of the lists: which of them are kept, and the files when they were last emptied.
 abbrev pub since_of : Bool → Bool → FileTableView → Since
 since_of changed released table = record {
   changed = changed;

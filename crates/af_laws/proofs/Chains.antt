@@ -60,11 +60,11 @@ module _ (w new : World) (t : Settles w new) where
   reached_left _ (ByTable f h) = ByTable f h
   reached_left _ (BySocket s f r h) = BySocket s f (reached_left s r) (to_without t.0 w s f (not_gone s r) h)
 
-  -- What is reachable afterwards was reachable.
+  -- A file that is reachable afterwards was reachable.
   pub reached_before : (f : ℕ) → Reached new f → Reached w f
   reached_before f r = places_keep_reached (without t.0 w) w (λ g h. h, λ s g h. (from_without t.0 w s g h).1) f (subst (λ x. Reached x f) t.2 r)
 
-  -- What was reachable is reachable afterwards.
+  -- A file that was reachable is reachable afterwards.
   reached_after : (f : ℕ) → Reached w f → Reached new f
   reached_after f r = subst (λ x. Reached x f) (sym t.2) (reached_left f r)
 
@@ -127,7 +127,7 @@ module _ (w : World) (s : ℕ) (m : Message) where
   abbrev pushed : Socket → Socket
   pushed x = record x { queue = x.queue ++ m ∷ [] }
 
-  -- What each file holds afterwards, by what it was.
+  -- The files that each file holds afterwards, by its contents before.
   held-push : (q : ℕ) → held_by (push_message w s m) q ≡ option_map_or contents (option_map (λ x. cond (eq_by_cmp nat_cmp q s) (file_with pushed x) x) (map.get w.files q)) []
   held-push q = ap (λ o. option_map_or contents o []) (get-change_at (file_with pushed) w.files s q)
 

@@ -26,7 +26,7 @@ use Rattle.af_laws.specs.Reaching.{GarbageStaysOutOfReach, SpawnReachesNoGarbage
 -- Where each place of a world is one of the old, or holds what was reached or is new, a chain leads
 -- to what was reached or is new.
 module _ (old now : World) (whole : IsWhole old) (tables : (f : ℕ) → InTable now f → IsKnown old f) (holders : (s f : ℕ) → Holds now s f → Holds old s f ⊎ IsKnown old f) where
-  -- What is reachable now was reachable or is new.
+  -- A file that is reachable now was reachable or is new.
   reached_or_new : (f : ℕ) → Reached now f → IsKnown old f
   reached_or_new _ (ByTable f t) = tables f t
   reached_or_new _ (BySocket s f r h) = elim (holders s f h) [

@@ -17,7 +17,7 @@ use Rattle.af_laws.specs.Settling.{SettlesToSome}
 
 -- A test that fails where another passes passes less often.
 module _ (p q : ℕ → Bool) (weaker : (x : ℕ) → q x ≡ true → p x ≡ true) where
-  -- On one number it counts no more.
+  -- It counts one number at most as often.
   one_less : (x : ℕ) → cond {A = ℕ} (q x) 1 0 ≤ cond {A = ℕ} (p x) 1 0
   one_less x = by (q x) refl (p x) refl where
     by : (a : Bool) → q x ≡ a → (b : Bool) → p x ≡ b → cond {A = ℕ} a 1 0 ≤ cond {A = ℕ} b 1 0
@@ -25,7 +25,7 @@ module _ (p q : ℕ → Bool) (weaker : (x : ℕ) → q x ≡ true → p x ≡ t
     by true d true e = omega arith
     by true d false e = absurd (false≢true (sym e ∙ weaker x d))
 
-  -- On a list it counts no more.
+  -- It counts a list at most as often.
   not_more : (xs : List ℕ) → count_by q xs ≤ count_by p xs
   not_more [] = omega arith
   not_more (x ∷ xs) = omega (arith, sum_by-cons (λ y. cond {A = ℕ} (q y) 1 0) x xs, sum_by-cons (λ y. cond {A = ℕ} (p y) 1 0) x xs, one_less x, not_more xs)

@@ -34,7 +34,7 @@ module _ (old new : World) (test : ℕ → Bool) (apart : (f : ℕ) → test f �
         whole None = refl
         whole (Some x) = refl
 
-  -- What was reachable is as it was.
+  -- Each file that was reachable is as it was.
   pub spared : SparesReached old new
   spared = record {
     tables = ap (λ w. w.processes) purged.2;
@@ -58,7 +58,7 @@ module _ (old new : World) (test : ℕ → Bool) (apart : (f : ℕ) → test f �
 
 -- A world whose garbage is purged.
 module _ (old new : World) (test : ℕ → Bool) (garbage : (f : ℕ) → (test f ≡ true) ↔ Garbage old f) (purged : Purges test old new) where
-  -- What passes the test is garbage.
+  -- A file that passes the test is garbage.
   is_garbage : (f : ℕ) → test f ≡ true → Garbage old f
   is_garbage f e = (garbage f).0 e
 

@@ -169,11 +169,11 @@ module _ (w : World) (files : List ListedFile) (s : BTreeSet ℕ) (is : w.files 
   abbrev unmarked : ℕ → Bool
   unmarked f = not (tree.contains nat_cmp s f)
 
-  -- What the filter leaves was in the list.
+  -- A number that the filter leaves was in the list.
   inside : (f : ℕ) → Contains (filter unmarked inos) f → Contains inos f
   inside f h = All-contains (Contains inos) (filter unmarked inos) f (All-filter unmarked (Contains inos) inos (All-contains_itself inos)) h
 
-  -- What the filter leaves is unmarked.
+  -- A number that the filter leaves is unmarked.
   passed : (f : ℕ) → Contains (filter unmarked inos) f → unmarked f ≡ true
   passed f h = All-contains (λ x. unmarked x ≡ true) (filter unmarked inos) f (filter_passes unmarked inos) h
 
