@@ -9,7 +9,7 @@ use std::alloc::{AllocError, Global};
 use std::fmt;
 
 /// The holder of a file.
-#[derive(Clone, Copy, Debug)]
+#[derive(Clone, Copy)]
 pub enum Location {
     /// A number of a process (open(2)).
     Number(Pid, Fd),
@@ -20,7 +20,7 @@ pub enum Location {
 }
 
 /// A place: a file and what holds it there.
-#[derive(Clone, Copy, Debug)]
+#[derive(Clone, Copy)]
 pub struct Reference {
     pub file: Ino,
     pub holder: Location,

@@ -10,14 +10,14 @@ use std::fmt;
 const PAYLOAD: &[u8] = b".";
 
 /// An end of a connection: a process, and the number that it has there.
-#[derive(Clone, Copy, Debug)]
+#[derive(Clone, Copy)]
 pub struct End {
     pub pid: Pid,
     pub fd: Fd,
 }
 
 /// Why a descriptor was not delivered.
-#[derive(Clone, Copy, Debug)]
+#[derive(Clone, Copy)]
 pub enum Undelivered {
     /// Something else waits to be received.
     Busy,

@@ -8,7 +8,7 @@ use std::alloc::{AllocError, Global};
 
 /// The registers of a process when it calls (syscall(2)): the number of the call, and its first
 /// three arguments. The room for a receive is there too, where Linux reads a `msghdr`.
-#[derive(Clone, Copy, Debug)]
+#[derive(Clone, Copy)]
 pub struct Registers {
     pub number: u32,
     pub first: u32,
@@ -17,7 +17,7 @@ pub struct Registers {
 }
 
 /// The objects that the pointers of a call refer to, in the memory of the process.
-#[derive(Debug, Drop)]
+#[derive(Drop)]
 pub struct Memory {
     /// The bytes of a message: a send reads them, and a receive writes them (`msg_iov`).
     pub bytes: Bytes,
