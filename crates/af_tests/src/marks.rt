@@ -1,6 +1,4 @@
-//! Tests beyond the clauses: that ample memory suffices, and that a second try does after a
-//! refusal.
-
+//! A last close frees a file at once where no pass runs, which no clause says.
 use af_base::events::{SockType, State};
 use af_base::ids::FileRef;
 use af_desc::Files;
@@ -20,24 +18,6 @@ fn drop_frees(rt: &impl Abort, files: &mut Files, file: &FileRef) -> bool {
     files.drop_descriptor(file)
 }
 
-/// Drops the last descriptor of two plain files: the first is freed at once, and the second, which a
-/// pass began with, is listed as unreferenced.
-fn free_or_list(rt: &impl Abort, files: &mut Files) -> Result<(), AllocError> {
-    let (first, second) = (file(rt, files)?, file(rt, files)?);
-    let freed = drop_frees(rt, files, &first);
-    assert!(rt; freed && files.live() == 1 && files.next_unreferenced().is_none());
-    files.start_epoch();
-    let freed = drop_frees(rt, files, &second);
-    assert!(rt; !freed && files.live() == 1 && files.next_unreferenced().is_some());
-    Ok(())
-}
-
-#[test]
-fn a_last_close_frees(rt: HostRuntime) -> Result<(), AllocError> {
-    let mut files = Files::new(rt.alloc());
-    free_or_list(&rt, &mut files)
-}
-
 /// Closes one of two connected sockets, which is freed at once and hangs up the other.
 fn close_one_end(rt: &impl Abort, files: &mut Files) -> Result<(), AllocError> {
     assert!(rt; !files.is_full(2));
@@ -49,24 +29,21 @@ fn close_one_end(rt: &impl Abort, files: &mut Files) -> Result<(), AllocError> {
     Ok(())
 }
 
-#[test]
-fn a_last_close_frees_a_socket(rt: HostRuntime) -> Result<(), AllocError> {
-    let mut files = Files::new(rt.alloc());
-    close_one_end(&rt, &mut files)
+/// Drops the last descriptor of two plain files beside that socket: the first is freed at once, and
+/// the second, which a pass began with, is listed as unreferenced.
+fn free_or_list(rt: &impl Abort, files: &mut Files) -> Result<(), AllocError> {
+    let (first, second) = (file(rt, files)?, file(rt, files)?);
+    let freed = drop_frees(rt, files, &first);
+    assert!(rt; freed && files.live() == 2 && files.next_unreferenced().is_none());
+    files.start_epoch();
+    let freed = drop_frees(rt, files, &second);
+    assert!(rt; !freed && files.live() == 2 && files.next_unreferenced().is_some());
+    Ok(())
 }
 
-/// A file is made, at the second trial where the first found no room. It is not marked.
-fn one_is_made(rt: &impl Abort, files: &mut Files) {
-    let made = match file(rt, files) {
-        Ok(made) => made,
-        Err(_) => file(rt, files).unwrap_or_default(),
-    };
-    assert!(rt; files.live() == 1 && !files.is_marked(&made));
-}
-
-/// One allocation refused, the Nth: `tools/stress` refuses each in turn.
 #[test]
-fn one_refused(rt: HostRuntime) {
+fn a_last_close_frees(rt: HostRuntime) -> Result<(), AllocError> {
     let mut files = Files::new(rt.alloc());
-    one_is_made(&rt, &mut files);
+    close_one_end(&rt, &mut files)?;
+    free_or_list(&rt, &mut files)
 }

@@ -1,8 +1,8 @@
 //! Tests beyond the clauses and scripts. The worked scripts of `tests/cases`, with each refusal, show
 //! that the definitions say what was meant.
-mod acts;
+pub mod acts;
 mod cycle;
-mod growths;
+pub mod growths;
 mod runs;
 mod told;
 mod views;

@@ -1,8 +1,8 @@
-//! The seats and the log after a drive of scripts.
-use super::bench::{LayerOutcome, Play, end_of, event_at, scripts, spawn_from};
-use af_base::equality::events_equal;
-use af_layer::{Layer, OpenGate, Seat, Turns, drive};
-use std::alloc::{AllocError, Global};
+//! The log after a drive of scripts.
+use super::bench::{Mixed, Play, drive_from, end_of, scripts_of, spawn_from_last};
+use af_layer::{Layer, OpenGate, Seat, Turns};
+use std::alloc::Global;
+use std::process::Abort;
 use std::sync::Wait;
 use std::thread::Threads;
 
@@ -10,65 +10,27 @@ const WORKERS: u32 = 4;
 
 const STEPS: u32 = 500;
 
-/// All seats behind four workers, and a collector beside them, where the lists keep the scripts.
-/// The last seat lets the processes start, and the drive leaves it alone.
-fn drive_all<R: Threads + Wait + Sync>(
-    rt: &R,
-    alloc: Global,
-    layer: &Layer,
-    mut seats: Vec<Seat>,
-) -> Option<Vec<Seat>> {
-    let last = seats.last_mut()?;
-    if !spawn_from(rt, layer, last, WORKERS) {
-        return None;
-    }
-    let scripts = scripts(alloc, WORKERS, STEPS).ok()?;
-    let turns = Turns {
-        turns: STEPS,
-        budget: 8,
-    };
-    let seats = drive(rt, layer, seats, scripts, Some(turns), &OpenGate).ok()?;
-    if keep_the_scripts(alloc, &seats) {
-        Some(seats)
-    } else {
-        None
-    }
-}
-
-/// Whether the events of this seat are its script.
-fn keeps_its_script(alloc: Global, seat: &Seat) -> Result<bool, AllocError> {
-    let mut turn = 0u32;
-    for pair in seat.list() {
-        if !events_equal(&pair.event(), &event_at(alloc, seat.number(), turn)?) {
-            return Ok(false);
-        }
-        turn = turn.saturating_add(1);
-    }
-    Ok(turn == STEPS)
-}
-
-/// Whether each worker's events are its script.
-fn keep_the_scripts(alloc: Global, seats: &[Seat]) -> bool {
-    for seat in seats.iter().take(WORKERS as usize) {
-        if keeps_its_script(alloc, seat) != Ok(true) {
-            return false;
-        }
-    }
-    true
-}
-
-/// The workers and the collector do their scripts.
+/// Four workers do scripts, with a collector beside them. The last seat lets the processes start,
+/// and the drive leaves it alone.
 struct Scripts;
 
 impl Play for Scripts {
-    fn on<R: Threads + Wait + Sync>(
+    fn on<R: Abort + Threads + Wait + Sync>(
         &self,
         rt: &R,
         alloc: Global,
         layer: &Layer,
-        seats: Vec<Seat>,
-    ) -> Option<Vec<Seat>> {
-        drive_all(rt, alloc, layer, seats)
+        seats: &mut Vec<Seat>,
+    ) -> Option<()> {
+        if !spawn_from_last(rt, layer, seats, WORKERS) {
+            return None;
+        }
+        let turns = Turns {
+            turns: STEPS,
+            budget: 8,
+        };
+        let scripts = scripts_of(alloc, &Mixed, WORKERS, STEPS).ok()?;
+        drive_from(rt, layer, seats, scripts, Some(turns), &OpenGate).ok()
     }
 }
 
@@ -76,10 +38,5 @@ impl Play for Scripts {
 /// scripts, the turns of the collector, and the starts.
 #[test]
 fn log_keeps_the_scripts(rt: HostRuntime) {
-    let well = LayerOutcome {
-        fault: None,
-        entries: 2_504,
-        seats: 0,
-    };
-    assert!(rt; end_of(&rt, rt.alloc(), WORKERS + 2, &Scripts) == Some(well));
+    assert!(rt; end_of(&rt, rt.alloc(), WORKERS + 2, &Scripts) == Some(Ok(2_504)));
 }

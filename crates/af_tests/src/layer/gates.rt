@@ -1,10 +1,11 @@
 //! Gates of flags: one at which each worker waits until all are inside, so that they run beside
 //! each other, and one that lets the second seat call when the first has called.
-use super::bench::{LayerOutcome, Play, end_of, spawn, spawn_from, step};
-use af_base::events::{Event, Reply, Step};
+use super::bench::{Mixed, Play, Script, drive_from, end_of, scripts_of, spawn, spawn_from_last};
+use af_base::events::{Event, Reply};
 use af_base::ids::Pid;
-use af_layer::{Gate, Layer, Seat, Turns, drive};
+use af_layer::{Gate, Layer, Seat, Turns};
 use std::alloc::{AllocError, Global};
+use std::process::Abort;
 use std::sync::Wait;
 use std::sync::atomic::{AtomicU64, Ordering};
 use std::thread;
@@ -104,74 +105,44 @@ impl Gate for Flags {
     }
 }
 
-/// Two scripts of two opens.
-fn opens(alloc: Global) -> Result<Vec<Vec<Event>>, AllocError> {
-    Ok(vec![in alloc;
-        vec![in alloc; step(1, Step::Open), step(1, Step::Open)]?,
-        vec![in alloc; step(2, Step::Open), step(2, Step::Open)]?,
-    ]?)
-}
-
-/// The scripts of the first two seats, and of a third one, which makes passes, where there is no
-/// collector.
-fn scripts(alloc: Global, collector: Option<Turns>) -> Result<Vec<Vec<Event>>, AllocError> {
-    let mut scripts = opens(alloc)?;
-    if collector.is_none() {
-        scripts.push(vec![in alloc; Event::Pass, Event::Pass]?)?;
-    }
-    Ok(scripts)
-}
-
-/// All seats, where all were inside at once.
-fn all_inside<R: Threads + Wait + Sync>(
-    rt: &R,
-    alloc: Global,
-    layer: &Layer,
-    seats: Vec<Seat>,
-    collector: Option<Turns>,
-) -> Option<Vec<Seat>> {
-    let scripts = scripts(alloc, collector).ok()?;
-    let flags = Flags::new();
-    let seats = drive(rt, layer, seats, scripts, collector, &flags).ok()?;
-    if flags.is_passed() { Some(seats) } else { None }
-}
-
-/// All are inside at once: two seats with scripts of opens, and a third with one of passes, or the
-/// collector's. The fourth lets the processes start, and the drive leaves it alone.
+/// All are inside at once: seats with scripts of two events, and the collector's, if it has turns.
+/// The last seat lets the processes start, and the drive leaves it alone.
 #[derive(Clone, Copy)]
 struct Inside {
+    workers: u32,
     collector: Option<Turns>,
 }
 
 impl Play for Inside {
-    fn on<R: Threads + Wait + Sync>(
+    fn on<R: Abort + Threads + Wait + Sync>(
         &self,
         rt: &R,
         alloc: Global,
         layer: &Layer,
-        mut seats: Vec<Seat>,
-    ) -> Option<Vec<Seat>> {
-        let last = seats.last_mut()?;
-        if !spawn_from(rt, layer, last, 2) {
+        seats: &mut Vec<Seat>,
+    ) -> Option<()> {
+        if !spawn_from_last(rt, layer, seats, self.workers) {
             return None;
         }
-        all_inside(rt, alloc, layer, seats, self.collector)
+        let scripts = scripts_of(alloc, &Mixed, self.workers, 2).ok()?;
+        let flags = Flags::new();
+        drive_from(rt, layer, seats, scripts, self.collector, &flags).ok()?;
+        assert!(rt; flags.is_passed());
+        Some(())
     }
 }
 
-/// The audit ended well. The log has two starts, and two calls of each of three seats.
-const WELL: LayerOutcome = LayerOutcome {
-    fault: None,
-    entries: 8,
-    seats: 0,
-};
-
+/// The log has three starts, and two calls of each of three seats.
 #[test]
 fn gate_three_workers(rt: HostRuntime) {
-    let inside = Inside { collector: None };
-    assert!(rt; end_of(&rt, rt.alloc(), 4, &inside) == Some(WELL));
+    let inside = Inside {
+        workers: 3,
+        collector: None,
+    };
+    assert!(rt; end_of(&rt, rt.alloc(), 4, &inside) == Some(Ok(9)));
 }
 
+/// The log has two starts, and two calls of each of three seats.
 #[test]
 fn gate_all_inside(rt: HostRuntime) {
     let turns = Turns {
@@ -179,9 +150,10 @@ fn gate_all_inside(rt: HostRuntime) {
         budget: 8,
     };
     let inside = Inside {
+        workers: 2,
         collector: Some(turns),
     };
-    assert!(rt; end_of(&rt, rt.alloc(), 4, &inside) == Some(WELL));
+    assert!(rt; end_of(&rt, rt.alloc(), 4, &inside) == Some(Ok(8)));
 }
 
 /// Flags of two seats, each of which calls when the other has.
@@ -228,9 +200,13 @@ impl Gate for Turnstile {
     }
 }
 
-/// A script of one start, and one of two.
-fn starts(alloc: Global) -> Result<Vec<Vec<Event>>, AllocError> {
-    Ok(vec![in alloc; vec![in alloc; spawn()]?, vec![in alloc; spawn(), spawn()]?]?)
+/// A script of starts.
+struct Starts;
+
+impl Script for Starts {
+    fn event(&self, _alloc: Global, _pid: u32, _turn: u32) -> Result<Event, AllocError> {
+        Ok(spawn())
+    }
 }
 
 /// Whether the process of this pid was started by the first call from this seat.
@@ -250,30 +226,22 @@ fn are_in_turn(seats: &[Seat]) -> bool {
 struct InTurn;
 
 impl Play for InTurn {
-    fn on<R: Threads + Wait + Sync>(
+    fn on<R: Abort + Threads + Wait + Sync>(
         &self,
         rt: &R,
         alloc: Global,
         layer: &Layer,
-        seats: Vec<Seat>,
-    ) -> Option<Vec<Seat>> {
-        let scripts = starts(alloc).ok()?;
+        seats: &mut Vec<Seat>,
+    ) -> Option<()> {
         let turnstile = Turnstile::new();
-        let seats = drive(rt, layer, seats, scripts, None, &turnstile).ok()?;
-        if turnstile.failures.load(Ordering::SeqCst) == 0 && are_in_turn(&seats) {
-            Some(seats)
-        } else {
-            None
-        }
+        let scripts = scripts_of(alloc, &Starts, 2, 2).ok()?;
+        drive_from(rt, layer, seats, scripts, None, &turnstile).ok()?;
+        assert!(rt; turnstile.failures.load(Ordering::SeqCst) == 0 && are_in_turn(seats));
+        Some(())
     }
 }
 
 #[test]
 fn gate_is_told_of_a_call_that_was_made(rt: HostRuntime) {
-    let well = LayerOutcome {
-        fault: None,
-        entries: 3,
-        seats: 0,
-    };
-    assert!(rt; end_of(&rt, rt.alloc(), 2, &InTurn) == Some(well));
+    assert!(rt; end_of(&rt, rt.alloc(), 2, &InTurn) == Some(Ok(4)));
 }

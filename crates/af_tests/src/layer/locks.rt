@@ -1,7 +1,8 @@
 //! Several calls under one lock.
-use super::bench::{LayerOutcome, Play, end_of, event_at, spawn};
+use super::bench::{Mixed, Play, Script, end_of, spawn};
 use af_layer::{Layer, Seat};
 use std::alloc::Global;
+use std::process::Abort;
 use std::sync::Wait;
 use std::thread::Threads;
 
@@ -14,7 +15,7 @@ fn play_locked<R: Wait>(rt: &R, alloc: Global, layer: &Layer, seat: &mut Seat) -
     let mut locked = layer.lock(rt);
     locked.call(seat, spawn()).ok()?;
     for turn in 0..STEPS {
-        let event = event_at(alloc, 1, turn).ok()?;
+        let event = Mixed.event(alloc, 1, turn).ok()?;
         locked.call(seat, event).ok()?;
     }
     Some(())
@@ -24,25 +25,19 @@ fn play_locked<R: Wait>(rt: &R, alloc: Global, layer: &Layer, seat: &mut Seat) -
 struct OneLock;
 
 impl Play for OneLock {
-    fn on<R: Threads + Wait + Sync>(
+    fn on<R: Abort + Threads + Wait + Sync>(
         &self,
         rt: &R,
         alloc: Global,
         layer: &Layer,
-        mut seats: Vec<Seat>,
-    ) -> Option<Vec<Seat>> {
-        play_locked(rt, alloc, layer, seats.first_mut()?)?;
-        Some(seats)
+        seats: &mut Vec<Seat>,
+    ) -> Option<()> {
+        play_locked(rt, alloc, layer, seats.first_mut()?)
     }
 }
 
 /// Checks that the audit ends well: so the log has what the list has.
 #[test]
 fn log_has_the_calls_under_one_lock(rt: HostRuntime) {
-    let well = LayerOutcome {
-        fault: None,
-        entries: 501,
-        seats: 0,
-    };
-    assert!(rt; end_of(&rt, rt.alloc(), 1, &OneLock) == Some(well));
+    assert!(rt; end_of(&rt, rt.alloc(), 1, &OneLock) == Some(Ok(501)));
 }

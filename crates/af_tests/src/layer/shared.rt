@@ -1,103 +1,127 @@
-//! Calls on an engine that threads share: each does what the engine's own call does, and threads
-//! make them beside each other.
+//! Calls on an engine that threads share: each does its event, and threads make them beside each
+//! other.
+use crate::steps::acts::{event_of, reply_of};
+use crate::steps::growths::ROWS;
 use af_base::errno::Errno;
-use af_base::events::{Event, SockType};
+use af_base::events::{Event, Reply, SockType, Step};
 use af_base::ids::{Fd, Pid, Uid};
-use af_base::items::Items;
 use af_layer::Shared;
-use af_steps::{Engine, Progress};
 use std::alloc::{AllocError, Global};
-use std::process::Abort;
 use std::sync::Wait;
 use std::test::Fail;
 use std::thread;
 use std::thread::Threads;
 
-/// The process of the calls that are compared.
-const PID: Pid = Pid(1);
-
-/// Makes calls on tables of both engines, and returns whether each comes to the same.
-fn tables_agree<R: Wait>(rt: &R, shared: &Shared, engine: &mut Engine) -> bool {
-    shared.spawn(rt, Uid(7), 9, false) == engine.spawn(Uid(7), 9, false)
-        && shared.open(rt, PID) == engine.open(PID)
-        && shared.dup(rt, PID, Fd(0)) == engine.dup(PID, Fd(0))
-        && shared.dup2(rt, PID, Fd(1), Fd(5)) == engine.dup2(PID, Fd(1), Fd(5))
-        && shared.close(rt, PID, Fd(1)) == engine.close(PID, Fd(1))
-        && shared.fork(rt, PID) == engine.fork(PID)
-        && shared.limit(rt, Pid(2), 3) == engine.limit(Pid(2), 3)
-        && shared.dup2(rt, Pid(2), Fd(0), Fd(3)) == engine.dup2(Pid(2), Fd(0), Fd(3))
-        && shared.dup(rt, Pid(2), Fd(0)) == engine.dup(Pid(2), Fd(0))
-        && shared.exit(rt, Pid(2)) == engine.exit(Pid(2))
-        && shared.fork(rt, Pid(2)) == engine.fork(Pid(2))
+/// Returns the reply that an answer or a refusal stands for.
+fn reply_to<T: Into<Reply>>(outcome: Result<T, Errno>) -> Reply {
+    match outcome {
+        Ok(answer) => answer.into(),
+        Err(error) => Reply::Refused(error),
+    }
 }
 
-/// The same with calls on sockets.
-fn sockets_agree<R: Wait>(rt: &R, shared: &Shared, engine: &mut Engine) -> bool {
-    let kind = SockType::Stream;
-    let name = b"bell";
-    shared.socket(rt, PID, kind) == engine.socket(PID, kind)
-        && shared.bind(rt, PID, Fd(1), name) == engine.bind(PID, Fd(1), name)
-        && shared.listen(rt, PID, Fd(1), 1) == engine.listen(PID, Fd(1), 1)
-        && shared.socket(rt, PID, kind) == engine.socket(PID, kind)
-        && shared.connect(rt, PID, Fd(2), name) == engine.connect(PID, Fd(2), name)
-        && shared.accept(rt, PID, Fd(1)) == engine.accept(PID, Fd(1))
-        && shared.accept(rt, PID, Fd(1)) == engine.accept(PID, Fd(1))
-        && shared.pair(rt, PID, kind) == engine.pair(PID, kind)
+/// Does a step by the call for it, and returns its reply.
+fn call_step<R: Wait>(rt: &R, shared: &Shared, pid: Pid, step: &Step) -> Reply {
+    match step {
+        Step::Open => reply_to(shared.open(rt, pid)),
+        Step::Dup(from) => reply_to(shared.dup(rt, pid, *from)),
+        Step::Dup2(from, to) => reply_to(shared.dup2(rt, pid, *from, *to)),
+        Step::Close(fd) => reply_to(shared.close(rt, pid, *fd)),
+        Step::Fork => reply_to(shared.fork(rt, pid)),
+        Step::Exit => reply_to(shared.exit(rt, pid)),
+        Step::Pair(kind) => reply_to(shared.pair(rt, pid, *kind)),
+        Step::Socket(kind) => reply_to(shared.socket(rt, pid, *kind)),
+        Step::Bind { on, name } => reply_to(shared.bind(rt, pid, *on, name.as_slice())),
+        Step::Listen { on, backlog } => reply_to(shared.listen(rt, pid, *on, *backlog)),
+        Step::Connect { on, name } => reply_to(shared.connect(rt, pid, *on, name.as_slice())),
+        Step::Accept(on) => reply_to(shared.accept(rt, pid, *on)),
+        Step::Send { on, bytes, attach } => {
+            let sent = shared.send(rt, pid, *on, bytes.as_slice(), attach.as_slice());
+            reply_to(sent.map(Reply::Sent))
+        }
+        Step::Recv {
+            on,
+            max_bytes,
+            max_fds,
+        } => reply_to(shared.recv(rt, pid, *on, *max_bytes, *max_fds)),
+        Step::Peek {
+            on,
+            max_bytes,
+            max_fds,
+        } => reply_to(shared.peek(rt, pid, *on, *max_bytes, *max_fds)),
+        Step::Limit(limit) => reply_to(shared.limit(rt, pid, *limit)),
+    }
 }
 
-/// The same with calls on messages.
-fn messages_agree<R: Wait>(
+/// Does an event by the call for it, and returns its reply.
+fn call<R: Wait>(rt: &R, shared: &Shared, event: &Event) -> Reply {
+    match event {
+        Event::Spawn {
+            uid,
+            nofile,
+            privileged,
+        } => reply_to(shared.spawn(rt, *uid, *nofile, *privileged)),
+        Event::Proc(pid, step) => call_step(rt, shared, *pid, step),
+        Event::Begin => reply_to(shared.begin(rt).map(Reply::Started)),
+        Event::Slice(budget) => reply_to(shared.slice(rt, *budget)),
+        Event::Pass => reply_to(shared.pass(rt)),
+    }
+}
+
+/// Does an event that is given away, a send by the call for it, and returns its reply.
+fn call_owned<R: Wait>(rt: &R, shared: &Shared, event: Event) -> Reply {
+    match event {
+        Event::Proc(pid, Step::Send { on, bytes, attach }) => {
+            let sent = shared.send_owned(rt, pid, on, bytes, attach.as_slice());
+            reply_to(sent.map(Reply::Sent))
+        }
+        other => shared.step_owned(rt, other),
+    }
+}
+
+/// How an event is done on an engine that is shared.
+#[derive(Clone, Copy)]
+enum Way {
+    /// By the call for it.
+    Call,
+    /// By one call for all events.
+    Step,
+    /// By a call that is given the event, or its bytes.
+    Owned,
+}
+
+/// Does each event this way, and returns whether all have their replies.
+fn reply_as_told<R: Wait>(
     rt: &R,
     alloc: Global,
     shared: &Shared,
-    engine: &mut Engine,
+    way: Way,
 ) -> Result<bool, AllocError> {
-    let given = Items::of(b"ships".to_vec(alloc)?);
-    let same = Items::of(b"ships".to_vec(alloc)?);
-    let attach = [Fd(0), Fd(2)];
-    Ok(
-        shared.send(rt, PID, Fd(4), b"three", &attach) == engine.send(PID, Fd(4), b"three", &attach)
-            && shared.send_owned(rt, PID, Fd(4), given, &[])
-                == engine.send_owned(PID, Fd(4), same, &[])
-            && shared.peek(rt, PID, Fd(6), 7, 1) == engine.peek(PID, Fd(6), 7, 1)
-            && shared.recv(rt, PID, Fd(6), 3, 2) == engine.recv(PID, Fd(6), 3, 2)
-            && shared.recv(rt, PID, Fd(6), 0, 2) == engine.recv(PID, Fd(6), 0, 2),
-    )
+    for (act, answer) in &ROWS {
+        let event = event_of(alloc, *act)?;
+        let reply = match way {
+            Way::Call => call(rt, shared, &event),
+            Way::Step => shared.step(rt, &event),
+            Way::Owned => call_owned(rt, shared, event),
+        };
+        if reply != reply_of(alloc, *answer)? {
+            return Ok(false);
+        }
+    }
+    Ok(true)
 }
 
-/// The same with passes, and with events of any kind.
-fn passes_agree<R: Wait>(rt: &R, shared: &Shared, engine: &mut Engine) -> bool {
-    shared.begin(rt) == engine.begin()
-        && shared.slice(rt, 1) == engine.slice(1)
-        && shared.pass(rt) == engine.pass()
-        && shared.slice(rt, 1_000) == engine.slice(1_000)
-        && shared.pass(rt) == engine.pass()
-        && shared.step(rt, &Event::Slice(0)) == engine.step(&Event::Slice(0))
-        && shared.step_owned(rt, Event::Pass) == engine.step_owned(Event::Pass)
-}
-
-/// Returns whether both engines count the same.
-fn count_alike(one: &Engine, other: &Engine) -> bool {
-    one.live() == other.live()
-        && one.total() == other.total()
-        && one.next_ino() == other.next_ino()
-        && one.next_pid() == other.next_pid()
-}
-
-/// Makes each call on an engine that is shared, and on one that is not.
-fn agree<R: Wait>(rt: &R, alloc: Global) -> Result<bool, AllocError> {
+/// Does all events this way on a new engine.
+fn play<R: Wait>(rt: &R, alloc: Global, way: Way) -> Result<bool, AllocError> {
     let shared = Shared::new(alloc)?;
-    let mut engine = Engine::new(alloc)?;
-    let same = tables_agree(rt, &shared, &mut engine)
-        && sockets_agree(rt, &shared, &mut engine)
-        && messages_agree(rt, alloc, &shared, &mut engine)?
-        && passes_agree(rt, &shared, &mut engine);
-    Ok(same && count_alike(&shared.into_engine(), &engine))
+    reply_as_told(rt, alloc, &shared, way)
 }
 
 #[test]
-fn shared_calls_are_the_engines(rt: HostRuntime) -> Result<(), Fail> {
-    assert!(rt; agree(&rt, rt.alloc())?);
+fn shared_calls_do_their_events(rt: HostRuntime) -> Result<(), AllocError> {
+    for way in [Way::Call, Way::Step, Way::Owned] {
+        assert!(rt; play(&rt, rt.alloc(), way)?);
+    }
     Ok(())
 }
 
@@ -107,59 +131,69 @@ const THREADS: usize = 4;
 /// How often each does its work.
 const TURNS: u32 = 2_000;
 
-/// A pair of sockets of a process, each sent to the other and closed: a cycle, which is garbage.
-fn loses_a_cycle<R: Wait>(rt: &R, shared: &Shared, pid: Pid) -> Result<(), Errno> {
-    let (here, there) = shared.pair(rt, pid, SockType::Seqpacket)?;
-    shared.send(rt, pid, here, b"1", &[here])?;
-    shared.send(rt, pid, there, b"2", &[there])?;
-    shared.close(rt, pid, here)?;
-    shared.close(rt, pid, there)
+/// Sends each socket of a pair to the other and closes both: a cycle, which is garbage. Returns
+/// whether no call was refused.
+fn lose_a_cycle<R: Wait>(rt: &R, shared: &Shared, pid: Pid) -> bool {
+    let ends = [Fd(0), Fd(1)];
+    let pair = Step::Pair(SockType::Seqpacket);
+    let mut is_done = call_step(rt, shared, pid, &pair) == Reply::Fds(ends[0], ends[1]);
+    for on in ends {
+        is_done = is_done && shared.send(rt, pid, on, b"1", &[on]).is_ok();
+    }
+    for on in ends {
+        is_done = is_done && call_step(rt, shared, pid, &Step::Close(on)) == Reply::Ok;
+    }
+    is_done
 }
 
-/// A process that loses cycles until it ends.
-fn loses_cycles<R: Wait>(rt: &R, shared: &Shared) -> Result<(), Errno> {
-    let pid = shared.spawn(rt, Uid(1), 8, true)?;
+/// Loses cycles in a process until it ends. Returns whether no call was refused.
+fn lose_cycles<R: Wait>(rt: &R, shared: &Shared) -> bool {
+    let spawn = Event::Spawn {
+        uid: Uid(1),
+        nofile: 8,
+        privileged: true,
+    };
+    let Reply::Pid(pid) = call(rt, shared, &spawn) else {
+        return false;
+    };
     for _ in 0..TURNS {
-        loses_a_cycle(rt, shared, pid)?;
+        if !lose_a_cycle(rt, shared, pid) {
+            return false;
+        }
     }
-    shared.exit(rt, pid)
+    call_step(rt, shared, pid, &Step::Exit) == Reply::Ok
 }
 
-/// A slice of the pass that runs, or the beginning of the next one.
-fn collects_on<R: Wait>(rt: &R, shared: &Shared, is_passing: bool) -> Result<bool, Errno> {
-    if !is_passing {
-        shared.begin(rt)?;
-    }
-    Ok(shared.slice(rt, 8)? == Progress::Working)
-}
-
-/// The collector beside the processes: no other thread calls it.
-fn collects<R: Wait>(rt: &R, shared: &Shared) -> Result<(), Errno> {
-    let mut is_passing = false;
+/// Collects beside the processes, from no other thread. Returns whether no call was refused.
+fn collect<R: Wait>(rt: &R, shared: &Shared) -> bool {
+    let mut event = Event::Begin;
     for _ in 0..TURNS {
-        is_passing = collects_on(rt, shared, is_passing)?;
+        event = match call(rt, shared, &event) {
+            Reply::Started(_) | Reply::Working => Event::Slice(8),
+            Reply::Done { .. } => Event::Begin,
+            _ => return false,
+        };
     }
-    Ok(())
+    true
 }
 
-/// The work of a thread of this number.
-fn work<R: Wait>(rt: &R, shared: &Shared, number: usize) -> Result<(), Errno> {
+/// Does the work of a thread of this number.
+fn work<R: Wait>(rt: &R, shared: &Shared, number: usize) -> bool {
     if number == THREADS - 1 {
-        collects(rt, shared)
+        collect(rt, shared)
     } else {
-        loses_cycles(rt, shared)
+        lose_cycles(rt, shared)
     }
 }
 
 /// Ends the pass that runs, if one does, and makes a whole one.
-fn collects_all(engine: &mut Engine) -> Result<(), Errno> {
+fn collect_all<R: Wait>(rt: &R, shared: &Shared) {
     for _ in 0..TURNS {
-        if engine.slice(65_536) == Err(Errno::EIDLE) {
+        if call(rt, shared, &Event::Slice(65_536)) == Reply::Refused(Errno::EIDLE) {
             break;
         }
     }
-    engine.pass()?;
-    Ok(())
+    call(rt, shared, &Event::Pass);
 }
 
 /// Works in all threads. Returns whether no call was refused, and how many files are left then.
@@ -169,12 +203,8 @@ fn works_in_threads<R: Threads + Wait + Sync>(
 ) -> Result<(bool, usize), AllocError> {
     let shared = Shared::new(alloc)?;
     let done = thread::map_indices(rt, alloc, THREADS, &|number| work(rt, &shared, number))?;
-    let mut engine = shared.into_engine();
-    let collected = collects_all(&mut engine);
-    Ok((
-        collected.is_ok() && done.iter().all(|done| done.is_ok()),
-        engine.live(),
-    ))
+    collect_all(rt, &shared);
+    Ok((done.iter().all(|done| *done), shared.into_engine().live()))
 }
 
 #[test]

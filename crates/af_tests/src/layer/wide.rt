@@ -1,11 +1,12 @@
 //! Drives from as many seats as a layer may have, over as many files as there may be.
-use super::bench::{LayerOutcome, Play, end_of, step};
+use super::bench::{Play, Script, drive_from, end_of, scripts_of, step};
 use af_base::errno::Errno;
 use af_base::events::{Event, Reply, SockType, Step};
 use af_base::ids::{Fd, Uid};
 use af_base::items::{Bytes, Items};
-use af_layer::{Layer, OpenGate, Seat, Turns, drive};
+use af_layer::{Layer, OpenGate, Seat, Turns};
 use std::alloc::{AllocError, Global};
+use std::process::Abort;
 use std::sync::Wait;
 use std::thread::Threads;
 
@@ -30,88 +31,44 @@ fn spawn_all<R: Wait>(rt: &R, layer: &Layer, seat: &mut Seat) -> bool {
     true
 }
 
-/// The name that a listener has.
+/// Returns the name of the listener.
 fn name(alloc: Global) -> Result<Bytes, AllocError> {
     Ok(Items::of(b"listener".to_vec(alloc)?))
 }
 
 /// Opens as many files as the process may have: a socket at 0, a listener where no other process
 /// has the name, a socket at 1, and plain files.
-fn fill_script(alloc: Global, pid: u32) -> Result<Vec<Event>, AllocError> {
-    let bind = Step::Bind {
-        on: Fd(0),
-        name: name(alloc)?,
-    };
-    let listen = Step::Listen {
-        on: Fd(0),
-        backlog: 8,
-    };
-    let mut script = Vec::new(alloc);
-    script.push(step(pid, Step::Socket(SockType::Stream)))?;
-    script.push(step(pid, bind))?;
-    script.push(step(pid, listen))?;
-    script.push(step(pid, Step::Socket(SockType::Stream)))?;
-    for _ in 2..NOFILE {
-        script.push(step(pid, Step::Open))?;
-    }
-    Ok(script)
-}
+struct Fill;
 
-/// The scripts that open 65,536 files, one for each seat.
-fn fill_scripts(alloc: Global) -> Result<Vec<Vec<Event>>, AllocError> {
-    let mut scripts = Vec::new(alloc);
-    for before in 0..SEATS {
-        scripts.push(fill_script(alloc, before.saturating_add(1))?)?;
+impl Script for Fill {
+    fn event(&self, alloc: Global, pid: u32, turn: u32) -> Result<Event, AllocError> {
+        let what = match turn {
+            0 | 3 => Step::Socket(SockType::Stream),
+            1 => Step::Bind {
+                on: Fd(0),
+                name: name(alloc)?,
+            },
+            2 => Step::Listen {
+                on: Fd(0),
+                backlog: 8,
+            },
+            _ => Step::Open,
+        };
+        Ok(step(pid, what))
     }
-    Ok(scripts)
 }
 
 /// Connects the socket at 1 to the listener.
-fn connect_script(alloc: Global, pid: u32) -> Result<Vec<Event>, AllocError> {
-    let connect = Step::Connect {
-        on: Fd(1),
-        name: name(alloc)?,
-    };
-    Ok(vec![in alloc; step(pid, connect)]?)
-}
+struct Connect;
 
-/// The scripts that connect, one for each seat but the last.
-fn connect_scripts(alloc: Global) -> Result<Vec<Vec<Event>>, AllocError> {
-    let mut scripts = Vec::new(alloc);
-    for before in 1..SEATS {
-        scripts.push(connect_script(alloc, before)?)?;
+impl Script for Connect {
+    fn event(&self, alloc: Global, pid: u32, _turn: u32) -> Result<Event, AllocError> {
+        let connect = Step::Connect {
+            on: Fd(1),
+            name: name(alloc)?,
+        };
+        Ok(step(pid, connect))
     }
-    Ok(scripts)
-}
-
-/// The seats behind a drive that makes all files, from each seat some.
-fn fill_all<R: Threads + Wait + Sync>(
-    rt: &R,
-    alloc: Global,
-    layer: &Layer,
-    mut seats: Vec<Seat>,
-) -> Option<Vec<Seat>> {
-    if !spawn_all(rt, layer, seats.last_mut()?) {
-        return None;
-    }
-    let scripts = fill_scripts(alloc).ok()?;
-    drive(rt, layer, seats, scripts, None, &OpenGate).ok()
-}
-
-/// Returns the seats after a drive over these files. It connects from each seat but the last, which
-/// begins a pass and continues it. Four slices of the largest budget end a pass over all files.
-fn connect_all<R: Threads + Wait + Sync>(
-    rt: &R,
-    alloc: Global,
-    layer: &Layer,
-    seats: Vec<Seat>,
-) -> Option<Vec<Seat>> {
-    let scripts = connect_scripts(alloc).ok()?;
-    let turns = Turns {
-        turns: 5,
-        budget: 65_536,
-    };
-    drive(rt, layer, seats, scripts, Some(turns), &OpenGate).ok()
 }
 
 /// Returns whether the last call of this seat was refused, since there are 65,536 live files.
@@ -137,34 +94,37 @@ fn went_as_told(seats: &[Seat]) -> bool {
     }
 }
 
-/// All files are made, and a pass visits them while each seat asks for one more.
+/// All files are made, from each seat some. Then each seat but the last asks for one more, while
+/// the last begins a pass and continues it: four slices of the largest budget end a pass over all
+/// files.
 struct Wide;
 
 impl Play for Wide {
-    fn on<R: Threads + Wait + Sync>(
+    fn on<R: Abort + Threads + Wait + Sync>(
         &self,
         rt: &R,
         alloc: Global,
         layer: &Layer,
-        seats: Vec<Seat>,
-    ) -> Option<Vec<Seat>> {
-        let seats = fill_all(rt, alloc, layer, seats)?;
-        let seats = connect_all(rt, alloc, layer, seats)?;
-        if went_as_told(&seats) {
-            Some(seats)
-        } else {
-            None
+        seats: &mut Vec<Seat>,
+    ) -> Option<()> {
+        if !spawn_all(rt, layer, seats.last_mut()?) {
+            return None;
         }
+        let scripts = scripts_of(alloc, &Fill, SEATS, NOFILE + 2).ok()?;
+        drive_from(rt, layer, seats, scripts, None, &OpenGate).ok()?;
+        let turns = Turns {
+            turns: 5,
+            budget: 65_536,
+        };
+        let scripts = scripts_of(alloc, &Connect, SEATS - 1, 1).ok()?;
+        drive_from(rt, layer, seats, scripts, Some(turns), &OpenGate).ok()?;
+        assert!(rt; went_as_told(seats));
+        Some(())
     }
 }
 
 /// The log has 64 starts, 1,026 calls of each seat, 63 connects and five turns.
 #[test]
 fn drives_from_64_seats_over_65_536_files(rt: HostRuntime) {
-    let well = LayerOutcome {
-        fault: None,
-        entries: 65_796,
-        seats: 0,
-    };
-    assert!(rt; end_of(&rt, rt.alloc(), SEATS, &Wide) == Some(well));
+    assert!(rt; end_of(&rt, rt.alloc(), SEATS, &Wide) == Some(Ok(65_796)));
 }

@@ -1,9 +1,6 @@
 //! One allocation refused, the Nth: `tools/stress` refuses each in turn.
-use super::acts::{Act, Answer, Trial, event_of, on_new_engine, reply_of, reply_to};
-use super::views::{counts, queue_lengths};
+use super::acts::{Act, Answer, Trial, on_new_engine, play};
 use af_base::errno::Errno;
-use af_base::events::{Event, Reply};
-use af_base::ids::Uid;
 use af_steps::Engine;
 use std::alloc::{AllocError, Global};
 use std::process::Abort;
@@ -12,7 +9,7 @@ use std::process::Abort;
 /// pass marks, since a file is in flight all along. The files freed at the end need none: a socket
 /// in its own queue, a listener in the queue of a socket that it accepted, and those that they
 /// hold.
-static ROWS: [(Act, Answer); 40] = [
+pub static ROWS: [(Act, Answer); 40] = [
     (Act::Spawn(1000), Answer::Pid(1)),
     (Act::Open, Answer::Fd(0)),
     (Act::Pair, Answer::Fds(1, 2)),
@@ -55,55 +52,12 @@ static ROWS: [(Act, Answer); 40] = [
     (Act::Pass, Answer::Done(2, 4)),
 ];
 
-/// Returns the counts that the views show of the first four files, the last of which is to listen,
-/// of user 1000, and of all.
-fn views_of(engine: &Engine) -> [(u64, u64); 9] {
-    [
-        counts(engine, 1),
-        counts(engine, 2),
-        counts(engine, 3),
-        counts(engine, 4),
-        queue_lengths(engine, 2),
-        queue_lengths(engine, 3),
-        queue_lengths(engine, 4),
-        (engine.charged(Uid(1000)), engine.total()),
-        (engine.live() as u64, u64::from(engine.next_pid().0)),
-    ]
-}
-
-/// Does the event, which has this reply, at the second try if the first was refused memory; then
-/// nothing had changed.
-fn do_event(rt: &impl Abort, engine: &mut Engine, event: &Event, wanted: &Reply) {
-    let before = views_of(engine);
-    let mut reply = reply_to(engine, event);
-    if reply == Reply::Refused(Errno::ENOMEM) {
-        assert!(rt; views_of(engine) == before);
-        reply = reply_to(engine, event);
-    }
-    assert!(rt; reply == *wanted, "{event:?}");
-}
-
-/// The rows are done so.
-fn all_done(
-    rt: &impl Abort,
-    alloc: Global,
-    engine: &mut Engine,
-    rows: &[(Act, Answer)],
-) -> Result<(), AllocError> {
-    for (act, wanted) in rows {
-        let event = event_of(alloc, *act)?;
-        let wanted = reply_of(alloc, *wanted)?;
-        do_event(rt, engine, &event, &wanted);
-    }
-    Ok(())
-}
-
 /// All rows are played, and leave nothing.
 struct EachRow;
 
 impl Trial for EachRow {
     fn on<T: Abort>(&self, rt: &T, alloc: Global, engine: &mut Engine) -> Result<(), AllocError> {
-        all_done(rt, alloc, engine, &ROWS)?;
+        play(rt, alloc, engine, &ROWS)?;
         assert!(rt; engine.live() == 0);
         Ok(())
     }

@@ -23,82 +23,33 @@ fn rounds(alloc: Global) -> Result<Vec<Event>, AllocError> {
     Ok(events)
 }
 
-/// The replies so far: whether the process lives and its descriptor is open, and how often memory
-/// was refused, for an event or for its reply.
-#[derive(Drop)]
-struct ReplyState {
-    lives: bool,
-    is_open: bool,
-    wants: u32,
-}
-
-impl ReplyState {
-    /// Memory was wanted once more.
-    fn want(&mut self) {
-        self.wants = self.wants.saturating_add(1);
-    }
-
-    /// The reply to the event, where memory is ample.
-    fn wanted_reply(&self, event: &Event) -> Reply {
-        match event {
-            Event::Spawn { .. } => Reply::Pid(Pid(1)),
-            _ if !self.lives => Reply::Refused(Errno::ESRCH),
-            Event::Proc(_, Step::Open) => Reply::Fd(Fd(0)),
-            _ if self.is_open => Reply::Ok,
-            _ => Reply::Refused(Errno::EBADF),
-        }
-    }
-
-    /// This is the reply to the event, or memory was wanted and nothing has changed.
-    fn check_reply(&mut self, rt: &impl Abort, event: &Event, reply: &Reply) {
+/// Returns how many of the events were refused memory.
+fn refusals(replies: &[Reply]) -> usize {
+    let mut refusals = 0usize;
+    for reply in replies {
         if *reply == Reply::Refused(Errno::ENOMEM) {
-            self.want();
-            return;
-        }
-        assert!(rt; *reply == self.wanted_reply(event), "{event:?}: {reply:?}");
-        match reply {
-            Reply::Pid(_) => self.lives = true,
-            Reply::Fd(_) => self.is_open = true,
-            Reply::Ok => self.is_open = false,
-            _ => {}
+            refusals = refusals.saturating_add(1);
         }
     }
-
-    /// These are the replies to the first events. How many there are.
-    fn note_all(&mut self, rt: &impl Abort, events: &[Event], replies: &[Reply]) -> usize {
-        for (event, reply) in events.iter().zip(replies) {
-            self.check_reply(rt, event, reply);
-        }
-        replies.len()
-    }
+    refusals
 }
 
-/// The events are run. How many were done: fewer than there are where memory for a reply was
-/// refused.
-fn run(rt: &impl Abort, engine: &mut Engine, events: &[Event], told: &mut ReplyState) -> usize {
+/// Runs the events. Returns how many were done, and how often memory was refused for an event or
+/// for its reply: where it was for a reply, the run stops.
+fn run(engine: &mut Engine, events: &[Event]) -> (usize, usize) {
     match engine.run(events) {
-        Ok(replies) => told.note_all(rt, events, replies.as_slice()),
-        Err(RunStopped { done }) => {
-            assert!(rt; done.len() < events.len());
-            told.want();
-            told.note_all(rt, events, done.as_slice())
-        }
+        Ok(replies) => (replies.len(), refusals(&replies)),
+        Err(RunStopped { done }) => (done.len(), refusals(&done).saturating_add(1)),
     }
 }
 
 /// Runs all events, for which memory is refused once at most. Where a run stops, another one
 /// continues behind it.
 fn run_all(rt: &impl Abort, engine: &mut Engine, events: &[Event]) {
-    let mut told = ReplyState {
-        lives: false,
-        is_open: false,
-        wants: 0,
-    };
-    let done = run(rt, engine, events, &mut told);
-    let rest = events.get(done..).unwrap_or(&[]);
-    let more = run(rt, engine, rest, &mut told);
+    let (done, first) = run(engine, events);
+    let (more, second) = run(engine, events.get(done..).unwrap_or(&[]));
     assert!(rt; done.saturating_add(more) == events.len());
-    assert!(rt; told.wants <= 1);
+    assert!(rt; first.saturating_add(second) <= 1);
 }
 
 /// All rounds are run. Where the refused allocation is of the list of events, nothing is.

@@ -1,9 +1,9 @@
 //! Which files were freed, and whose readiness may have changed: both lists behind each event. It
 //! passes with one allocation refused, the Nth, too: `tools/stress` refuses each in turn.
-use super::acts::{Act, Answer, Trial, event_of, on_new_engine, play, reply_of, reply_to};
+use super::acts::{Act, Answer, Trial, do_act, on_new_engine, reply_to};
 use af_base::errno::Errno;
 use af_base::events::{Event, Reply};
-use af_base::ids::{Fd, FileRef, Ino, Pid};
+use af_base::ids::{FileRef, Ino};
 use af_steps::{Engine, FileInfo};
 use std::alloc::{AllocError, Global};
 use std::process::Abort;
@@ -141,8 +141,8 @@ static EMPTY: [ToldRow; 2] = [
 /// Socket 30 has one message more.
 static FILLS: [ToldRow; 1] = [(Act::Send(0, b"m", &[]), Answer::Sent(1), &[], &[30])];
 
-/// A full queue refuses a message. A receive of nine messages makes room.
-static ROOM: [ToldRow; 2] = [
+/// A full queue refuses a message. A receive of nine messages makes room. The process ends.
+static FULL: [ToldRow; 3] = [
     (
         Act::Send(0, b"m", &[]),
         Answer::Refused(Errno::EAGAIN),
@@ -150,13 +150,11 @@ static ROOM: [ToldRow; 2] = [
         &[],
     ),
     (Act::Recv(1), Answer::Got(b"mmmmmmmmm", &[]), &[], &[30]),
+    (Act::Exit(1), Answer::Ok, &[29, 30], &[]),
 ];
 
 /// The pass of the slices begins.
 static BEGIN: [ToldRow; 1] = [(Act::Begin, Answer::Started(1), &[], &[])];
-
-/// The process ends.
-static LAST: [ToldRow; 1] = [(Act::Exit(1), Answer::Ok, &[29, 30], &[])];
 
 /// Returns whether these are the files that were freed.
 fn are_released(engine: &Engine, wanted: &[u64]) -> bool {
@@ -169,33 +167,20 @@ fn is_listed(changed: &[FileRef], ino: u64) -> bool {
     changed.iter().any(|file| file.ino() == Ino(ino))
 }
 
+/// Returns whether these sockets are among those whose readiness may have changed.
+fn are_listed(engine: &Engine, wanted: &[u64]) -> bool {
+    let changed = engine.changed_sockets();
+    wanted.iter().all(|ino| is_listed(changed, *ino))
+}
+
 /// Returns whether these are the sockets whose readiness may have changed.
 fn are_changed(engine: &Engine, wanted: &[u64]) -> bool {
-    let changed = engine.changed_sockets();
-    changed.len() == wanted.len() && wanted.iter().all(|ino| is_listed(changed, *ino))
+    engine.changed_sockets().len() == wanted.len() && are_listed(engine, wanted)
 }
 
 /// Returns whether nothing is reported.
 fn is_silent(engine: &Engine) -> bool {
     are_released(engine, &[]) && are_changed(engine, &[])
-}
-
-/// Returns whether the event may ask for memory.
-fn may_allocate(act: Act) -> bool {
-    !matches!(
-        act,
-        Act::Close(_) | Act::Exit(_) | Act::Begin | Act::Slice(_) | Act::Pass
-    )
-}
-
-/// Does the event, at a second try if the first was refused memory, which reports nothing.
-fn do_event(rt: &impl Abort, engine: &mut Engine, act: Act, event: &Event, wanted: &Reply) {
-    let mut reply = reply_to(engine, event);
-    if reply == Reply::Refused(Errno::ENOMEM) && may_allocate(act) {
-        assert!(rt; is_silent(engine), "{event:?}");
-        reply = reply_to(engine, event);
-    }
-    assert!(rt; reply == *wanted, "{event:?}: {reply:?}");
 }
 
 /// Does the events, each of which tells what its row says.
@@ -206,13 +191,10 @@ fn tells(
     rows: &[ToldRow],
 ) -> Result<(), AllocError> {
     for (act, answer, freed, changed) in rows {
-        let event = event_of(alloc, *act)?;
-        let wanted = reply_of(alloc, *answer)?;
-        do_event(rt, engine, *act, &event, &wanted);
-        assert!(rt; are_released(engine, freed), "{event:?}");
-        assert!(rt; are_changed(engine, changed), "{event:?}");
+        do_act(rt, alloc, engine, *act, *answer)?;
+        assert!(rt; are_released(engine, freed), "{freed:?}");
+        assert!(rt; are_changed(engine, changed), "{changed:?}");
         engine.clear_told();
-        assert!(rt; is_silent(engine));
     }
     Ok(())
 }
@@ -244,22 +226,13 @@ fn slices(rt: &impl Abort, engine: &mut Engine) -> u32 {
     told
 }
 
-/// Fills the queue of socket 30, whose peer is writable behind the receive that makes room.
+/// Fills the queue of socket 30, makes room by a receive, and ends the process.
 fn fills(rt: &impl Abort, alloc: Global, engine: &mut Engine) -> Result<(), AllocError> {
     tells(rt, alloc, engine, &EMPTY)?;
     for _ in 0..64 {
-        assert!(rt; is_writable(engine));
         tells(rt, alloc, engine, &FILLS)?;
     }
-    assert!(rt; !is_writable(engine));
-    tells(rt, alloc, engine, &ROOM)?;
-    assert!(rt; is_writable(engine));
-    tells(rt, alloc, engine, &LAST)
-}
-
-/// Returns whether descriptor 0 of process 1 is ready for a send.
-fn is_writable(engine: &Engine) -> bool {
-    engine.poll(Pid(1), Fd(0)).is_ok_and(|ready| ready.writable)
+    tells(rt, alloc, engine, &FULL)
 }
 
 /// Asks for both lists, at a second try if the first was refused memory.
@@ -327,21 +300,29 @@ fn are_sockets(engine: &Engine) -> bool {
     ))
 }
 
-/// Does the events, and leaves both lists as they grow.
+/// Does the events, and leaves both lists as they are.
 fn plays(
     rt: &impl Abort,
     alloc: Global,
     engine: &mut Engine,
     rows: &[ToldRow],
 ) -> Result<(), AllocError> {
+    for (act, answer, _, _) in rows {
+        do_act(rt, alloc, engine, *act, *answer)?;
+    }
+    Ok(())
+}
+
+/// Does the events, and lets both lists grow. The second has live sockets alone.
+fn grows(
+    rt: &impl Abort,
+    alloc: Global,
+    engine: &mut Engine,
+    rows: &[ToldRow],
+) -> Result<(), AllocError> {
     for (act, answer, _, changed) in rows {
-        play(rt, alloc, engine, &[(*act, *answer)])?;
-        assert!(rt; are_sockets(engine));
-        assert!(rt;
-            changed
-                .iter()
-                .all(|ino| is_listed(engine.changed_sockets(), *ino))
-        );
+        do_act(rt, alloc, engine, *act, *answer)?;
+        assert!(rt; are_listed(engine, changed) && are_sockets(engine));
     }
     Ok(())
 }
@@ -353,12 +334,12 @@ impl Trial for Joined {
     fn on<T: Abort>(&self, rt: &T, alloc: Global, engine: &mut Engine) -> Result<(), AllocError> {
         ask(engine)?;
         for rows in [&PLAIN[..], &MESSAGES, &LISTENER, &CHAIN] {
-            plays(rt, alloc, engine, rows)?;
+            grows(rt, alloc, engine, rows)?;
         }
         assert!(rt; are_released(engine, &FREED) && are_changed(engine, &[]));
-        plays(rt, alloc, engine, &PAIRS)?;
+        grows(rt, alloc, engine, &PAIRS)?;
         assert!(rt; are_released(engine, &FREED) && are_changed(engine, &PAIRED));
-        play(rt, alloc, engine, &[(Act::Exit(1), Answer::Ok)])?;
+        do_act(rt, alloc, engine, Act::Exit(1), Answer::Ok)?;
         assert!(rt; engine.released_files().len() == 34 && are_changed(engine, &[]));
         Ok(())
     }
@@ -369,28 +350,15 @@ fn lists_grow(rt: HostRuntime) -> Result<(), AllocError> {
     on_new_engine(&rt, rt.alloc(), &Joined)
 }
 
-/// Does the events.
-fn plays_to(
-    rt: &impl Abort,
-    alloc: Global,
-    engine: &mut Engine,
-    rows: &[ToldRow],
-) -> Result<(), AllocError> {
-    for (act, answer, _, _) in rows {
-        play(rt, alloc, engine, &[(*act, *answer)])?;
-    }
-    Ok(())
-}
-
 /// Nothing is reported before it is asked for, and then each list alone.
 struct Asked;
 
 impl Trial for Asked {
     fn on<T: Abort>(&self, rt: &T, alloc: Global, engine: &mut Engine) -> Result<(), AllocError> {
-        plays_to(rt, alloc, engine, &PLAIN)?;
+        plays(rt, alloc, engine, &PLAIN)?;
         assert!(rt; is_silent(engine));
         engine.tell_released()?;
-        plays_to(rt, alloc, engine, &MESSAGES)?;
+        plays(rt, alloc, engine, &MESSAGES)?;
         assert!(rt; are_released(engine, &[4, 5, 6, 7]) && are_changed(engine, &[]));
         engine.tell_changed()?;
         assert!(rt; is_silent(engine));
