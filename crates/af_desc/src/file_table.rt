@@ -152,7 +152,7 @@ impl FileTable {
     /// whether it was known, and unmarked in this pass. Takes no memory.
     #[inline(always)]
     #[tactic(auto, using(crate::proofs::TrackedTableView::chains, ordered_slab::proofs::Parts::parts))]
-    pub fn remove(&mut self, file: &FileRef, epoch: u64) -> (Option<Endpoint>, bool)
+    pub fn remove(&mut self, file: &FileRef, epoch: u32) -> (Option<Endpoint>, bool)
         requires silent { queue_in self.old.files file.now ≡ [] }
         ensures socket { result.0 ≡ socket_in self.old.files file.now }
         ensures white { result.1 ≡ is_white_in epoch self.old.marks file.now }
@@ -461,7 +461,7 @@ impl FileTable {
     /// whether this call marked it.
     #[inline(always)]
     #[tactic(auto, using(crate::proofs::TrackedTableView::chains, ordered_slab::proofs::Parts::parts, ordered_slab::proofs::Values::lent))]
-    pub fn shade(&mut self, file: &FileRef, epoch: u64, at: u32) -> bool
+    pub fn shade(&mut self, file: &FileRef, epoch: u32, at: u32) -> bool
         ensures white { result ≡ is_white_in epoch self.old.marks file.now }
         ensures marked { self.new ≡ record self.old {
           marks = if result then map.insert self.old.marks file.now (grey_mark epoch at)
@@ -483,7 +483,7 @@ impl FileTable {
     /// holds, by the same look at its row; `None` if this call did not mark it.
     #[inline(always)]
     #[tactic(auto, using(crate::proofs::TrackedTableView::chains, ordered_slab::proofs::Parts::parts, ordered_slab::proofs::Values::lent))]
-    pub fn visit(&mut self, file: &FileRef, epoch: u64) -> Option<Contents>
+    pub fn visit(&mut self, file: &FileRef, epoch: u32) -> Option<Contents>
         ensures due { is_some result ≡ is_due epoch self.old.counts self.old.marks file.now }
         ensures marked { is_some result ≡ true → self.new ≡ record self.old {
           marks = map.insert self.old.marks file.now (black_mark epoch);
@@ -503,7 +503,7 @@ impl FileTable {
     /// Marks a file black, which is known. Returns what it holds, by the same look at its row.
     #[inline(always)]
     #[tactic(auto, using(crate::proofs::TrackedTableView::chains, ordered_slab::proofs::Parts::parts, ordered_slab::proofs::Values::lent))]
-    pub fn scan(&mut self, file: &FileRef, epoch: u64) -> Contents
+    pub fn scan(&mut self, file: &FileRef, epoch: u32) -> Contents
         requires { IsTrue (map.contains_key self.old.marks file.now) }
         ensures set { self.new ≡ record self.old {
           marks = map.insert self.old.marks file.now (black_mark epoch);

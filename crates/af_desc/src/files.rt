@@ -49,7 +49,7 @@ pub struct Files {
     pub(crate) grey: Vec<FileRef>,
     /// The present epoch: no mark of an earlier one counts. A pass's begin and its end each take
     /// the next one.
-    pub(crate) epoch: u64,
+    pub(crate) epoch: u32,
     /// Files from this number on were made since the pass began.
     pub(crate) bound: u64,
     pub(crate) next: u64,

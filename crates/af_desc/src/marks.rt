@@ -22,7 +22,7 @@ use af_mark::{Color, Mark, clamp_index};
 
 impl Files {
     /// Begins a pass over the present files: none is marked. Costs the same for any number of
-    /// files, except once in 2^64 epochs, when it clears each mark.
+    /// files, except once in 2^32 epochs, when it clears each mark.
     pub fn start_epoch(&mut self)
         ensures unmarked { (f : ℕ) → is_marked self.new.marks f ≡ false }
         ensures known { (f : ℕ) → knows self.new.marks f ≡ knows self.old.marks f }
@@ -211,7 +211,7 @@ fn set_hint(rows: &mut TrackedTable, file: &FileRef, at: u32)
 }
 
 /// Returns the epoch after this one: no mark of an earlier epoch counts in it.
-fn next_epoch(rows: &mut TrackedTable, epoch: u64) -> u64
+fn next_epoch(rows: &mut TrackedTable, epoch: u32) -> u32
     requires upto { AreUpTo epoch rows.old.marks }
     requires begins { map.contains_key rows.old.files 0 ≡ false }
     ensures white { (f : ℕ) → map.get (colors_in result rows.new.marks) f
@@ -222,10 +222,10 @@ fn next_epoch(rows: &mut TrackedTable, epoch: u64) -> u64
     ensures len { map.len rows.new.marks ≡ map.len rows.old.marks }
     ensures rest { rows.new ≡ record rows.old { marks = rows.new.marks } }
 {
-    if epoch < u64::MAX {
+    if epoch < u32::MAX {
         return epoch + 1;
     }
-    // Once in 2^64 epochs.
+    // Once in 2^32 epochs.
     clear_all_marks(rows);
     1
 }

@@ -218,7 +218,7 @@ impl TrackedTable {
     /// Removes a file whose queue is empty, and returns its socket, if it was one. Returns also
     /// whether it was known, and unmarked in this pass. Takes no memory.
     #[inline(always)]
-    pub fn remove(&mut self, file: &FileRef, epoch: u64) -> (Option<Endpoint>, bool)
+    pub fn remove(&mut self, file: &FileRef, epoch: u32) -> (Option<Endpoint>, bool)
         requires silent { queue_in self.old.files file.now ≡ [] }
         ensures socket { result.0 ≡ socket_in self.old.files file.now }
         ensures white { result.1 ≡ is_white_in epoch self.old.marks file.now }
@@ -435,7 +435,7 @@ impl TrackedTable {
     /// Marks a file grey, with this place in the list, if it is not marked in this pass. Returns
     /// whether this call marked it.
     #[inline(always)]
-    pub fn shade(&mut self, file: &FileRef, epoch: u64, at: u32) -> bool
+    pub fn shade(&mut self, file: &FileRef, epoch: u32, at: u32) -> bool
         ensures white { result ≡ is_white_in epoch self.old.marks file.now }
         ensures marked { self.new ≡ record self.old {
           marks = if result then map.insert self.old.marks file.now (grey_mark epoch at)
@@ -449,7 +449,7 @@ impl TrackedTable {
     /// Marks a file black that a table holds, if it is not marked in this pass. Returns what it
     /// holds, by the same look at its row; `None` if this call did not mark it.
     #[inline(always)]
-    pub fn visit(&mut self, file: &FileRef, epoch: u64) -> Option<Contents>
+    pub fn visit(&mut self, file: &FileRef, epoch: u32) -> Option<Contents>
         ensures due { is_some result ≡ is_due epoch self.old.counts self.old.marks file.now }
         ensures marked { is_some result ≡ true → self.new ≡ record self.old {
           marks = map.insert self.old.marks file.now (black_mark epoch);
@@ -463,7 +463,7 @@ impl TrackedTable {
 
     /// Marks a file black, which is known. Returns what it holds, by the same look at its row.
     #[inline(always)]
-    pub fn scan(&mut self, file: &FileRef, epoch: u64) -> Contents
+    pub fn scan(&mut self, file: &FileRef, epoch: u32) -> Contents
         requires { IsTrue (map.contains_key self.old.marks file.now) }
         ensures set { self.new ≡ record self.old {
           marks = map.insert self.old.marks file.now (black_mark epoch);

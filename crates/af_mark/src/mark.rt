@@ -15,7 +15,7 @@ pub fn clamp_index(at: usize) -> u32 {
 #[derive(Clone, Copy)]
 pub struct Mark {
     /// The pass; 0 is none.
-    pub epoch: u64,
+    pub epoch: u32,
     /// The colour that it got then.
     pub color: Color,
     /// Its place in the list of the grey files: a hint.
@@ -37,7 +37,7 @@ impl Mark {
 
     /// Makes a mark of a file that is scanned in this pass.
     #[inline(always)]
-    pub fn black(epoch: u64) -> Mark
+    pub fn black(epoch: u32) -> Mark
         ensures { result ≡ black_mark epoch }
     {
         Mark {
@@ -49,7 +49,7 @@ impl Mark {
 
     /// Makes a mark of a file that is to be scanned in this pass, with its place in the list.
     #[inline(always)]
-    pub fn grey(epoch: u64, at: u32) -> Mark
+    pub fn grey(epoch: u32, at: u32) -> Mark
         ensures { result ≡ grey_mark epoch at }
     {
         Mark {
@@ -61,7 +61,7 @@ impl Mark {
 
     /// Returns the colour in this pass.
     #[inline(always)]
-    pub fn color_in(&self, epoch: u64) -> Color
+    pub fn color_in(&self, epoch: u32) -> Color
         ensures { result ≡ color_in epoch self.now }
     {
         if self.epoch == epoch {
@@ -73,7 +73,7 @@ impl Mark {
 
     /// Returns whether it is grey in this pass.
     #[inline(always)]
-    pub fn is_grey_in(&self, epoch: u64) -> bool
+    pub fn is_grey_in(&self, epoch: u32) -> bool
         ensures { result ≡ is_grey_color (color_in epoch self.now) }
     {
         matches!(self.color_in(epoch), Color::Grey)

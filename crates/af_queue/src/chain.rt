@@ -17,7 +17,7 @@ pub struct Node {
 pub struct Chain {
     pub first: u32,
     pub last: u32,
-    pub len: u32,
+    pub len: u8,
     /// Whether files may travel with one of them: if not, nobody needs to look at them.
     pub has_files: bool,
 }

@@ -30,7 +30,7 @@ pub const BATCH: usize = 16;
 pub struct Queue<'a> {
     nodes: &'a Slab<Node>,
     first: u32,
-    len: u32,
+    len: u8,
 }
 
 impl<'a> Model for Queue<'a> {
