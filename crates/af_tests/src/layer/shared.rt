@@ -68,13 +68,21 @@ fn call<R: Wait>(rt: &R, shared: &Shared, event: &Event) -> Reply {
     }
 }
 
-/// Does an event that is given away, a send by the call for it, and returns its reply.
-fn call_owned<R: Wait>(rt: &R, shared: &Shared, event: Event) -> Reply {
-    match event {
-        Event::Proc(pid, Step::Send { on, bytes, attach }) => {
+/// Does a step that is given away, a send by the call for it, and returns its reply.
+fn call_step_owned<R: Wait>(rt: &R, shared: &Shared, pid: Pid, step: Step) -> Reply {
+    match step {
+        Step::Send { on, bytes, attach } => {
             let sent = shared.send_owned(rt, pid, on, bytes, attach.as_slice());
             reply_to(sent.map(Reply::Sent))
         }
+        other => shared.step_owned(rt, Event::Proc(pid, other)),
+    }
+}
+
+/// Does an event that is given away, and returns its reply.
+fn call_owned<R: Wait>(rt: &R, shared: &Shared, event: Event) -> Reply {
+    match event {
+        Event::Proc(pid, step) => call_step_owned(rt, shared, pid, step),
         other => shared.step_owned(rt, other),
     }
 }
