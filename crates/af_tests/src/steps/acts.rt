@@ -181,6 +181,15 @@ pub fn reply_to(engine: &mut Engine, event: &Event) -> Reply {
     engine.step(event)
 }
 
+/// Returns the reply to the event, at a second try if it may be refused memory, and was.
+fn reply_with_memory(engine: &mut Engine, event: &Event, may_be_refused: bool) -> Reply {
+    let reply = reply_to(engine, event);
+    if may_be_refused && reply == Reply::Refused(Errno::ENOMEM) {
+        return reply_to(engine, event);
+    }
+    reply
+}
+
 /// Does the event, which has this reply, at a second try if the first was refused memory.
 pub fn do_act(
     rt: &impl Abort,
@@ -191,10 +200,7 @@ pub fn do_act(
 ) -> Result<(), AllocError> {
     let event = event_of(alloc, act)?;
     let wanted = reply_of(alloc, answer)?;
-    let mut reply = reply_to(engine, &event);
-    if may_allocate(act) && reply == Reply::Refused(Errno::ENOMEM) {
-        reply = reply_to(engine, &event);
-    }
+    let reply = reply_with_memory(engine, &event, may_allocate(act));
     assert!(rt; reply == wanted, "{event:?}: {reply:?}");
     Ok(())
 }
