@@ -20,9 +20,11 @@ use Rattle.af_mark.specs.declared.color.Color.TheVariants.{Black, Grey, White}
 
 -- A sum over entries, after a change at one key.
 module _ {X : Type 0} (F : ℕ × X → ℕ) where
+  -- The part of the value at a key, and 0 where there is none.
   abbrev at : ℕ → Option X → ℕ
   at k o = option_map_or (λ x. F (k, x)) o 0
 
+  -- A value put into sorted entries adds its part, and takes away that of the old value.
   sum_put : (k : ℕ) (v : X) (es : List (ℕ × X)) → T (is_sorted nat_cmp es) → sum_by F (put nat_cmp k v es) + at k (find nat_cmp k es) ≡ sum_by F es + F (k, v)
   sum_put k v [] h = omega (arith, sum_by-cons F (k, v) [])
   sum_put k v (e ∷ es) h =
@@ -36,12 +38,14 @@ module _ {X : Type 0} (F : ℕ × X → ℕ) where
         | Greater ↦ λ p. omega (arith, sum_by-cons F e (put nat_cmp k v es), sum_by-cons F e es, sum_put k v es (second _ _ h))
       ] refl
 
+  -- A value put into a map adds its part, and takes away that of the old value.
   sum_insert : (m : Map X) (k : ℕ) (v : X) → sum_by F (map.entries (map.insert m k v)) + at k (map.get m k) ≡ sum_by F (map.entries m) + F (k, v)
   sum_insert m k v =
       ap (λ es. sum_by F es + at k (map.get m k)) (entries-insert nat_cmp_total m k v)
       ∙ ap (λ o. sum_by F (put nat_cmp k v (map.entries m)) + at k o) (get-entries m k)
       ∙ sum_put k v (map.entries m) (entries_sorted m)
 
+  -- The removal of a key takes away the part of its value.
   sum_remove : (m : Map X) (k : ℕ) → sum_by F (map.entries (map.remove m k)) + at k (map.get m k) ≡ sum_by F (map.entries m)
   sum_remove m k = by (map.get m k) refl where
     gone : map.get (map.remove m k) k ≡ None
@@ -103,10 +107,11 @@ module _ (m : MarksView) (f : ℕ) where
     by (Some Grey) d = ap {B = ℕ} (λ b. cond b 1 0) (and-false (nat_lt f m.bound))
     by (Some Black) d = absurd (false≢true d)
 
--- A colour that is a mark adds nothing, and nor does a file that is not below the bound.
+-- A colour that is a mark adds nothing.
 pub white-mark : (bound f : ℕ) (c : Color) → is_mark c ≡ true → white bound (f, c) ≡ 0
 white-mark bound f c is = ap {B = ℕ} (λ b. cond (nat_lt f bound && not b) 1 0) is ∙ ap {B = ℕ} (λ b. cond b 1 0) (and-false (nat_lt f bound))
 
+-- A file that is not below the bound adds nothing.
 pub white-beyond : (bound f : ℕ) (c : Color) → bound ≤ f → white bound (f, c) ≡ 0
 white-beyond bound f c high = ap {B = ℕ} (λ b. cond (b && not (is_mark c)) 1 0) (le-ltb f bound high)
 

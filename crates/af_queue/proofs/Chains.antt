@@ -48,9 +48,11 @@ module _ (s t : Slab Node) (f l : ℕ) where
   rest_kept : (k n : ℕ) (x : Node) → slots.get s k ≡ Some x → KeepsKeys s t (keys_from s k (suc n)) → KeepsKeys s t (keys_from s x.next n)
   rest_kept k n x at keeps q h = keeps q (behind q k (keys_from s (next_at s k) n) (ap (λ z. list_any (nat_eq q) (keys_from s z n)) (next_there s k x at) ∙ h))
 
+  -- The other slab has the same first node, where it keeps the keys.
   first_kept : (k n : ℕ) (x : Node) → slots.get s k ≡ Some x → KeepsKeys s t (keys_from s k (suc n)) → slots.get t k ≡ Some x
   first_kept k n x at keeps = keeps k (itself k (keys_from s (next_at s k) n)) ∙ at
 
+  -- A path whose nodes are kept has the same keys there.
   keys_kept : (k n : ℕ) → IsPath s f l k n → KeepsKeys s t (keys_from s k n) → keys_from t k n ≡ keys_from s k n
   keys_kept k zero p keeps = refl
   keys_kept k (suc n) p keeps =
@@ -119,6 +121,7 @@ module _ (s u : Slab Node) (f l key : ℕ) (node : Node)
   fresh : (q : ℕ) (x : Node) → slots.get s q ≡ Some x → q ≢ key
   fresh q x at e = none_some x (sym vacant ∙ ap (slots.get s) (sym e) ∙ at)
 
+  -- The key of a node that is there compares unequal to the new key.
   apart_key : (q : ℕ) (x : Node) → slots.get s q ≡ Some x → nat_eq q key ≡ false
   apart_key q x at = neqb q key (fresh q x at)
 
@@ -128,6 +131,7 @@ module _ (s u : Slab Node) (f l key : ℕ) (node : Node)
     not_last : k ≢ l
     not_last e = absurd (true≢false (sym (last_in s f l x.next n rest) ∙ ap (λ z. list_any (nat_eq z) (keys_from s x.next (suc n))) (sym e) ∙ apart))
 
+  -- The keys of the longer path are the old ones, and then the new one.
   keys_more : (k n : ℕ) → IsPath s f l k (suc n) → keys_from u k (suc (suc n)) ≡ keys_from s k (suc n) ++ key ∷ []
   keys_more k zero p =
       let x = p.0 in
@@ -140,6 +144,7 @@ module _ (s u : Slab Node) (f l key : ℕ) (node : Node)
       ∙ keys_more x.next n p.1.5
       ∙ ap (λ z. keys_from s z (suc n) ++ key ∷ []) (sym (next_there s k x p.1.0)))
 
+  -- A key that is not among some, and is not the new one, is not among these and the new one.
   list_any_more : (q : ℕ) (ks : List ℕ) → list_any (nat_eq q) ks ≡ false → nat_eq q key ≡ false → list_any (nat_eq q) (ks ++ key ∷ []) ≡ false
   list_any_more q [] none off = ap (λ b. b || false) off
   list_any_more q (k ∷ ks) none off = by (nat_eq q k) none (λ h. list_any_more q ks h off) where
@@ -186,9 +191,11 @@ owner_last s f l k (suc n) p x at = owner_last s f l p.0.next n p.1.5 x at
 module _ (s t u : Slab Node) (f l key : ℕ) (node : Node) (vacant : slots.get s key ≡ None) (own : node.owner ≡ f) (within : IsMessageWithin node.message) (update : Updates s t key (Some node))
     (linked : (x : Node) → slots.get t l ≡ Some x → slots.get u l ≡ Some (record x { next = key }))
     (others : (q : ℕ) → q ≢ l → slots.get u q ≡ slots.get t q) where
+  -- A node that was there before the insertion is there after it.
   old : (q : ℕ) (x : Node) → slots.get s q ≡ Some x → slots.get t q ≡ Some x
   old q x at = update.others q (λ e. none_some x (sym vacant ∙ ap (slots.get s) (sym e) ∙ at)) ∙ at
 
+  -- The new key is not that of the last node.
   key_off : (k n : ℕ) → IsPath s f l k (suc n) → key ≢ l
   key_off k n p e = let x = last_there s f l k n p in none_some x.0 (sym vacant ∙ ap (slots.get s) e ∙ x.1)
 
@@ -219,12 +226,15 @@ module _ (s t u : Slab Node) (f l key : ℕ) (node : Node) (vacant : slots.get s
 
 -- The first node of a path is removed.
 module _ (s t : Slab Node) (f l k n : ℕ) (p : IsPath s f l k (suc n)) (update : Updates s t k None) where
+  -- The nodes behind the first stay.
   rest_stays : KeepsKeys s t (keys_from s p.0.next n)
   rest_stays q h = update.others q (λ e. true≢false (sym h ∙ ap (λ z. list_any (nat_eq z) (keys_from s p.0.next n)) e ∙ p.1.2))
 
+  -- The nodes behind the first are a path.
   pub popped : IsPath t f l p.0.next n
   popped = path_kept s t f l p.0.next n p.1.5 rest_stays
 
+  -- The messages were that of the first node, and then those that are left.
   pub messages_popped : messages_from s k (suc n) ≡ p.0.message ∷ messages_from t p.0.next n
   messages_popped = first_there s k n p.0 p.1.0 ∙ ap (λ ms. p.0.message ∷ ms) (sym (messages_kept s t f l p.0.next n p.1.5 rest_stays))
 
@@ -243,22 +253,27 @@ pops s t f l k (suc n) node ne at update p = popped_at s t f l k n p update node
 
 -- The message of the first node of a path is another one.
 module _ (s t : Slab Node) (f l k n : ℕ) (p : IsPath s f l k (suc n)) (m : Message) (within : IsMessageWithin m) (here : slots.get t k ≡ Some (record p.0 { message = m })) (others : (q : ℕ) → q ≢ k → slots.get t q ≡ slots.get s q) where
+  -- The nodes behind the first stay.
   rest_as_it_was : KeepsKeys s t (keys_from s p.0.next n)
   rest_as_it_was q h = others q (λ e. true≢false (sym h ∙ ap (λ z. list_any (nat_eq z) (keys_from s p.0.next n)) e ∙ p.1.2))
 
+  -- The nodes are still a path.
   pub changed : IsPath t f l k (suc n)
   changed =
       let apart = subst (λ ks. list_any (nat_eq k) ks ≡ false) (sym (keys_kept s t f l p.0.next n p.1.5 rest_as_it_was)) p.1.2 in
       (record p.0 { message = m }, (here, p.1.1, apart, p.1.3, within, path_kept s t f l p.0.next n p.1.5 rest_as_it_was))
 
+  -- The first message is the other one, and those behind it are as before.
   pub messages_changed : messages_from t k (suc n) ≡ m ∷ messages_from s p.0.next n
   messages_changed = first_there t k n (record p.0 { message = m }) here ∙ ap (λ ms. m ∷ ms) (messages_kept s t f l p.0.next n p.1.5 rest_as_it_was)
 
+  -- The nodes of other files stay.
   pub changed_elsewhere : SameElsewhere s t f
   changed_elsewhere q x at other = others q (λ e. other (ap (λ y. y.owner) (some_same x p.0 (sym at ∙ ap (slots.get s) e ∙ p.1.0)) ∙ p.1.1)) ∙ at
 
 -- Its first bytes go, and its files.
 module _ (s : Slab Node) (f l k n : ℕ) (node : Node) (m : Message) (count : ℕ) (some : 0 < count) (at : slots.get s k ≡ Some node) (is : m ≡ record node.message { bytes = drop count node.message.bytes; attached = [] }) where
+  -- The nodes are still a path, the messages are cut, and the nodes of other files stay.
   pub shortened : IsPath s f l k n → count < option_map_or (λ m. length m.bytes) (slice_get (messages_from s k n) 0) 0
       → IsPath (slots.with_value s k (record node { message = m })) f l k n × (messages_from (slots.with_value s k (record node { message = m })) k n ≡ cut count (messages_from s k n)) × SameElsewhere s (slots.with_value s k (record node { message = m })) f
   shortened p long = by n p long where

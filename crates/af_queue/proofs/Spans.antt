@@ -26,46 +26,58 @@ abbrev first_files : List Message → List ℕ
 first_files q = option_map_or (λ m. m.attached) (find has_files q) []
 
 module _ (m : Message) (q : List Message) where
+  -- Where the first message has files, the end is that of its bytes.
   end-here : has_files m ≡ true → end (m ∷ q) ≡ length m.bytes
   end-here t = ap (end_of (m ∷ q)) (find-here m q t) ∙ ap (λ k. k + length m.bytes) (before-here m q t) ∙ omega arith
 
+  -- Where it has none, the end is that of the others, behind its bytes.
   end-later : has_files m ≡ false → end (m ∷ q) ≡ length m.bytes + end q
   end-later t = ap (end_of (m ∷ q)) (find-later m q t) ∙ by (find has_files q) where
     by : (o : Option Message) → end_of (m ∷ q) o ≡ length m.bytes + end_of q o
     by None = before-later m q t
     by (Some x) = omega (arith, before-later m q t)
 
-  -- The front ends it, or the rest does.
+  -- A receive, a byte and a cut at n: within the first message, or beyond it.
   module _ (n : ℕ) where
+    -- A receive that ends with the first message takes as many of its bytes as it asks for, or all.
     pub stream_cut-front : has_files m || nat_le n (length m.bytes) ≡ true → stream_cut n (m ∷ q) ≡ min n (length m.bytes)
     stream_cut-front e = ap (λ b. cond b (min n (length m.bytes)) (length m.bytes + stream_cut (n - length m.bytes) q)) e
 
+    -- Any other takes all bytes of the first message, and then some of the others.
     pub stream_cut-rest : has_files m || nat_le n (length m.bytes) ≡ false → stream_cut n (m ∷ q) ≡ length m.bytes + stream_cut (n - length m.bytes) q
     stream_cut-rest e = ap (λ b. cond b (min n (length m.bytes)) (length m.bytes + stream_cut (n - length m.bytes) q)) e
 
+    -- A receive that ends with the first message takes the files of that message.
     pub files-front : has_files m || nat_le n (length m.bytes) ≡ true → files_in n (m ∷ q) ≡ m.attached
     files-front e = ap (λ b. cond b m.attached (files_in (n - length m.bytes) q)) e
 
+    -- Any other takes the files that a receive of the remaining bytes takes from the others.
     pub files-rest : has_files m || nat_le n (length m.bytes) ≡ false → files_in n (m ∷ q) ≡ files_in (n - length m.bytes) q
     files-rest e = ap (λ b. cond b m.attached (files_in (n - length m.bytes) q)) e
 
+    -- The first message has each byte up to its length.
     pub at-front : n ≤ length m.bytes → message_at n (m ∷ q) ≡ Some m
     at-front le = ap (λ b. cond b (Some m) (message_at (n - length m.bytes) q)) (le-leb n (length m.bytes) le)
 
+    -- Any later byte is among the others, counted from the end of the first.
     pub at-rest : length m.bytes < n → message_at n (m ∷ q) ≡ message_at (n - length m.bytes) q
     at-rest lt = ap (λ b. cond b (Some m) (message_at (n - length m.bytes) q)) (lt-leb n (length m.bytes) lt)
 
+    -- The first message without its first n bytes, and without its files.
     abbrev shorter : Message
     shorter = record m { bytes = drop n m.bytes; attached = [] }
 
+    -- A cut of at least its bytes removes it, and cuts the others by what remains.
     pub cut-rest : length m.bytes ≤ n → cut n (m ∷ q) ≡ cut (n - length m.bytes) q
     cut-rest le = ap (λ b. cond b (cut (n - length m.bytes) q) (cond (nat_lt 0 n) (shorter ∷ q) (m ∷ q))) (le-leb (length m.bytes) n le)
 
+    -- A cut of fewer leaves the rest of its bytes, without its files.
     pub cut-part : 0 < n → n < length m.bytes → cut n (m ∷ q) ≡ shorter ∷ q
     cut-part some lt =
         ap (λ b. cond b (cut (n - length m.bytes) q) (cond (nat_lt 0 n) (shorter ∷ q) (m ∷ q))) (lt-leb (length m.bytes) n lt)
         ∙ ap (λ b. cond b (shorter ∷ q) (m ∷ q)) (lt-ltb 0 n some)
 
+    -- A cut of just its bytes leaves the others as they are.
     pub cut-whole : HaveBytes q → n ≡ length m.bytes → cut n (m ∷ q) ≡ q
     cut-whole have e = cut-rest (omega (arith, e)) ∙ ap (λ k. cut k q) (omega (arith, e)) ∙ cut_none q have
 

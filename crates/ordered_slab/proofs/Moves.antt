@@ -28,42 +28,51 @@ nothing_gone m n none = same _ _ (λ q. by q (nat_eq q n) refl ∙ without_numbe
   by q false e = refl
 
 module _ (packed rows : List OrderRowView) (read last : ℕ) (h : AreRows packed rows read last) where
+  -- The live numbers of both lists, each with its key.
   abbrev both : Map ℕ
   both = live_of (packed ++ rows)
 
+  -- A number has the key that it has among the packed rows, or else among the others.
   both_held : (q : ℕ) → held (packed ++ rows) q ≡ or_else (held packed q) (held rows q)
   both_held q = append_held packed rows q
 
-  -- A number that is live among the rows is not packed, and the reverse.
+  -- A number that is live among the other rows has no key among the packed ones.
   pub not_packed : (n at : ℕ) → IsLiveAt rows n at → held packed n ≡ None
   not_packed n at x = nowhere packed n (λ i l e. let m = h.below i at x.0 l x.1 (ap (λ r. r.key) x.2) in omega (arith, ap (λ r. r.ino) x.2))
 
+  -- A number that is live among the packed rows has no key among the others.
   pub not_waiting : (n at : ℕ) → IsLiveAt packed n at → held rows n ≡ None
   not_waiting n at x = by (held rows n) refl where
     by : (o : Option ℕ) → held rows n ≡ o → held rows n ≡ None
     by None e = e
     by (Some k) e = let y = somewhere rows n k e in let m = h.below at y.0 k x.1 y.1 y.3 in absurd (omega (arith, ap (λ r. r.ino) x.2, y.2))
 
+  -- A number that is live among the other rows has the key of its row there.
   pub waiting_key : (n at : ℕ) (x : IsLiveAt rows n at) → Some x.0 ≡ map.get both n
   waiting_key n at x = sym (both_held n ∙ ap (λ o. or_else o (held rows n)) (not_packed n at x) ∙ live_place rows h.rows_rise n at x.0 x.1 x.2)
 
+  -- A number that is live among the packed rows has the key of its row there.
   pub packed_key : (n at : ℕ) (x : IsLiveAt packed n at) → Some x.0 ≡ map.get both n
   packed_key n at x = sym (both_held n ∙ ap (λ o. or_else o (held rows n)) (live_place packed h.packed_rise n at x.0 x.1 x.2))
 
   -- A number above all that there were.
   module _ (n k : ℕ) (above : last < n) where
+    -- The live row of that number.
     abbrev new_row : OrderRowView
     new_row = record { ino = n; key = Some k }
 
+    -- The number had no key before.
     pub new_number : map.get both n ≡ None
     new_number = both_held n ∙ ap (λ o. or_else o (held rows n)) (nowhere packed n (λ i l e. let m = h.packed_up i l in omega arith)) ∙ nowhere rows n (λ i l e. let m = h.rows_up i l in omega arith)
 
+    -- With its row, the number has its key, and the others keep theirs.
     pub push_keys : live_of (packed ++ (rows ++ new_row ∷ [])) ≡ map.insert both n k
     push_keys = same _ _ (λ q. ap (λ xs. held xs q) (sym (append_assoc packed rows (new_row ∷ []))) ∙ push_held (packed ++ rows) new_row q ∙ by q (nat_eq q n) refl ∙ with_number both n k q) where
       by : (q : ℕ) (b : Bool) → nat_eq q n ≡ b → or_else (map.get both q) (cond b (Some k) None) ≡ cond b (Some k) (map.get both q)
       by q true e = ap (λ o. or_else o (Some k)) (ap (map.get both) (eqb-true q n e) ∙ new_number)
       by q false e = or_none (map.get both q)
 
+    -- With its row, the lists are still in order, and it is the last number.
     pub push_rows : AreRows packed (rows ++ new_row ∷ []) read n
     push_rows = record {
       packed_rise = h.packed_rise;
@@ -77,15 +86,18 @@ module _ (packed rows : List OrderRowView) (read last : ℕ) (h : AreRows packed
 
   -- A row that dies among the others.
   module _ (n at : ℕ) (x : IsLiveAt rows n at) (d : OrderRowView) (number : d.ino ≡ n) (gone : d.key ≡ None) where
+    -- The dead row has the number of the row in its place.
     its_number : d.ino ≡ (row_at rows at).ino
     its_number = number ∙ sym (ap (λ r. r.ino) x.2)
 
+    -- With the dead row, its number has no key, and the others keep theirs.
     pub mark_waiting : live_of (packed ++ set rows at d) ≡ map.remove both n
     mark_waiting = same _ _ (λ q. append_held packed (set rows at d) q ∙ ap (or_else (held packed q)) (mark_held d gone rows h.rows_rise at x.1 its_number q ∙ ap (λ m. cond (nat_eq q m) None (held rows q)) number) ∙ by q (nat_eq q n) refl ∙ ap (cond (nat_eq q n) None) (sym (both_held q)) ∙ without_number both n q) where
       by : (q : ℕ) (b : Bool) → nat_eq q n ≡ b → or_else (held packed q) (cond b None (held rows q)) ≡ cond b None (or_else (held packed q) (held rows q))
       by q true e = or_none (held packed q) ∙ ap (held packed) (eqb-true q n e) ∙ not_packed n at x
       by q false e = refl
 
+    -- With the dead row, the lists are still in order.
     pub mark_waiting_rows : AreRows packed (set rows at d) read last
     mark_waiting_rows = record {
       packed_rise = h.packed_rise;
@@ -99,15 +111,18 @@ module _ (packed rows : List OrderRowView) (read last : ℕ) (h : AreRows packed
 
   -- A row that dies among the packed ones.
   module _ (n at : ℕ) (x : IsLiveAt packed n at) (d : OrderRowView) (number : d.ino ≡ n) (gone : d.key ≡ None) where
+    -- The dead row has the number of the row in its place.
     same_number : d.ino ≡ (row_at packed at).ino
     same_number = number ∙ sym (ap (λ r. r.ino) x.2)
 
+    -- With the dead row, its number has no key, and the others keep theirs.
     pub mark_packed : live_of (set packed at d ++ rows) ≡ map.remove both n
     mark_packed = same _ _ (λ q. append_held (set packed at d) rows q ∙ ap (λ o. or_else o (held rows q)) (mark_held d gone packed h.packed_rise at x.1 same_number q ∙ ap (λ m. cond (nat_eq q m) None (held packed q)) number) ∙ by q (nat_eq q n) refl ∙ ap (cond (nat_eq q n) None) (sym (both_held q)) ∙ without_number both n q) where
       by : (q : ℕ) (b : Bool) → nat_eq q n ≡ b → or_else (cond b None (held packed q)) (held rows q) ≡ cond b None (or_else (held packed q) (held rows q))
       by q true e = ap (held rows) (eqb-true q n e) ∙ not_waiting n at x
       by q false e = refl
 
+    -- With the dead row, the lists are still in order.
     pub mark_packed_rows : AreRows (set packed at d) rows read last
     mark_packed_rows = record {
       packed_rise = set_rise packed at d x.1 same_number h.packed_rise;
@@ -121,9 +136,11 @@ module _ (packed rows : List OrderRowView) (read last : ℕ) (h : AreRows packed
 
   -- The first row that was not read is moved.
   module _ (n : ℕ) (x : IsLiveAt rows n read) (d : OrderRowView) (number : d.ino ≡ n) (gone : d.key ≡ None) where
+    -- The row as it stands among the packed ones.
     abbrev moved : OrderRowView
     moved = record { ino = n; key = Some x.0 }
 
+    -- The move changes no key.
     pub move_keys : live_of ((packed ++ moved ∷ []) ++ set rows read d) ≡ both
     move_keys = same _ _ (λ q.
         append_held (packed ++ moved ∷ []) (set rows read d) q
@@ -137,6 +154,7 @@ module _ (packed rows : List OrderRowView) (read last : ℕ) (h : AreRows packed
               ∙ sym (ap (λ o. or_else o (held rows q)) (ap (held packed) s ∙ not_packed n read x) ∙ ap (held rows) s ∙ live_place rows h.rows_rise n read x.0 x.1 x.2)
           by q false e = ap (λ o. or_else o (held rows q)) (or_none (held packed q))
 
+    -- After the move the lists are still in order, and one row more was read.
     pub move_rows : AreRows (packed ++ moved ∷ []) (set rows read d) (read + 1) last
     move_rows = record {
       packed_rise = rise_push packed moved h.packed_rise (λ i l. let m = h.below i read x.0 l x.1 (ap (λ r. r.key) x.2) in omega (arith, ap (λ r. r.ino) x.2));
@@ -174,12 +192,14 @@ module _ (packed rows : List OrderRowView) (read last : ℕ) (h : AreRows packed
     by None e = b
     by (Some k) e = absurd (false≢true (sym e))
 
+  -- A number that is live among the packed rows is there.
   pub there_packed : (q : ℕ) → IsTrue (map.contains_key (live_of packed) q) → IsTrue (map.contains_key both q)
   there_packed q a = ap is_some (both_held q) ∙ by (held packed q) a where
     by : (o : Option ℕ) → IsTrue (is_some o) → is_some (or_else o (held rows q)) ≡ true
     by None e = absurd (false≢true e)
     by (Some k) e = refl
 
+  -- A number that is live among the other rows is there.
   pub there_waiting : (q : ℕ) → IsTrue (map.contains_key (live_of rows) q) → IsTrue (map.contains_key both q)
   there_waiting q a = ap is_some (both_held q) ∙ by (held packed q) where
     by : (o : Option ℕ) → is_some (or_else o (held rows q)) ≡ true
@@ -199,6 +219,7 @@ last_is front r n at x e = sym (row_last front r) ∙ ap (row_at (front ++ r ∷
 
 -- The last row is removed: a live one, or a dead one that was not read.
 module _ (packed front : List OrderRowView) (r : OrderRowView) (read last : ℕ) (h : AreRows packed (front ++ r ∷ []) read last) where
+  -- There is one row more than those in front.
   long : length (front ++ r ∷ []) ≡ length front + 1
   long = length_push front r
 
@@ -209,6 +230,7 @@ module _ (packed front : List OrderRowView) (r : OrderRowView) (read last : ℕ)
     | inr m ↦ m
   ]
 
+  -- Without a last row that was not read, the lists are still in order.
   pub pop_rows : read ≤ length front → AreRows packed front read last
   pop_rows unread = record {
     packed_rise = h.packed_rise;
@@ -220,6 +242,7 @@ module _ (packed front : List OrderRowView) (r : OrderRowView) (read last : ℕ)
     rows_up = λ i l. subst (λ (x : OrderRowView). x.ino ≤ last) (row_before front r i l) (h.rows_up i (omega (arith, long)));
   }
 
+  -- The removal of a dead row changes no key.
   pub pop_dead_keys : r.key ≡ None → live_of (packed ++ front) ≡ live_of (packed ++ (front ++ r ∷ []))
   pop_dead_keys gone = same _ _ (λ q. append_held packed front q
       ∙ ap (or_else (held packed q)) (sym (push_held front r q ∙ ap (or_else (held front q)) (by (nat_eq q r.ino)) ∙ or_none (held front q)))
@@ -229,9 +252,11 @@ module _ (packed front : List OrderRowView) (r : OrderRowView) (read last : ℕ)
         by false = refl
 
   module _ (k : ℕ) (live : r.key ≡ Some k) where
+    -- The number of the last row is live there.
     last_live : IsLiveAt (front ++ r ∷ []) r.ino (length front)
     last_live = (k, omega (arith, long), row_last front r ∙ (λ i. record { ino = r.ino; key = live i }))
 
+    -- The removal of a live row removes its number, and the others keep their keys.
     pub pop_keys : live_of (packed ++ front) ≡ map.remove (live_of (packed ++ (front ++ r ∷ []))) r.ino
     pop_keys = same _ _ (λ q.
         append_held packed front q ∙ by q (nat_eq q r.ino) refl

@@ -12,9 +12,11 @@ use Rattle.af_base.specs.World.{Map}
 use Rattle.ordered_slab.specs.Parts.{part}
 
 module _ {A B : Type 0} (g : A → B) where
+  -- Two maps that have the same at each number are equal.
   same : (m n : Map B) → ((q : ℕ) → finmap.get m q ≡ finmap.get n q) → m ≡ n
   same m n h = same_map nat_cmp_total nat_cmp-IsAntisymmetric m n h
 
+  -- A look-up among the parts finds the part of the value that one among the values finds.
   found : (es : List (ℕ × A)) (q : ℕ) → finmap.find nat_cmp q (map (λ (x : ℕ × A). (x.0, g x.1)) es) ≡ option_map g (finmap.find nat_cmp q es)
   found [] q = refl
   found (x ∷ es) q = ap (cond (eq_by_cmp nat_cmp q x.0) (Some (g x.1))) (found es q) ∙ by (eq_by_cmp nat_cmp q x.0) where

@@ -109,9 +109,11 @@ live_place rows h n i k l e = ap (held rows) (sym (ap (λ r. r.ino) e)) ∙ at_p
 
 -- A row dies in place.
 module _ (d : OrderRowView) (dead : d.key ≡ None) where
+  -- A dead row in front changes no key.
   dead_front : (rows : List OrderRowView) (q : ℕ) → held (d ∷ rows) q ≡ held rows q
   dead_front rows q = ap (λ o. map.get (option_map_or (map.insert (live_of rows) d.ino) o (live_of rows)) q) dead
 
+  -- With a dead row in the place of the row of its number, that number alone loses its key.
   pub mark_held : (rows : List OrderRowView) → Rise rows → (i : ℕ) → i < length rows → d.ino ≡ (row_at rows i).ino → (q : ℕ) → held (set rows i d) q ≡ cond (nat_eq q d.ino) None (held rows q)
   mark_held [] h i l e q = absurd (omega arith)
   mark_held (r ∷ rows) h zero l e q = dead_front rows q ∙ by (nat_eq q d.ino) refl where
@@ -176,32 +178,39 @@ rise_last rows r h i l =
 
 -- A row with its number in the place of another.
 module _ (rows : List OrderRowView) (at : ℕ) (d : OrderRowView) (there : at < length rows) (number : d.ino ≡ (row_at rows at).ino) where
+  -- Its place has the new row.
   pub set_same : row_at (set rows at d) at ≡ d
   set_same = get_or-set_same rows at d (record { ino = 0; key = None }) there
 
+  -- Any other place has the row that it had.
   pub set_other : (i : ℕ) → i ≢ at → row_at (set rows at d) i ≡ row_at rows i
   set_other i apart = get_or-set_other rows at i d (record { ino = 0; key = None }) apart
 
+  -- Each place has the number that it had.
   pub set_number : (i : ℕ) → (row_at (set rows at d) i).ino ≡ (row_at rows i).ino
   set_number i = by (nat_eq i at) refl where
     by : (b : Bool) → nat_eq i at ≡ b → (row_at (set rows at d) i).ino ≡ (row_at rows i).ino
     by true e = let s = eqb-true i at e in ap (λ j. (row_at (set rows at d) j).ino) s ∙ ap (λ r. r.ino) set_same ∙ number ∙ ap (λ j. (row_at rows j).ino) (sym s)
     by false e = ap (λ r. r.ino) (set_other i (eqb-false i at e))
 
+  -- Rows that rose still rise.
   pub set_rise : Rise rows → Rise (set rows at d)
   set_rise h i j l m = let long = length-set rows at d in let o = h i j l (omega arith) in omega (arith, set_number i, set_number j)
 
+  -- Where no number was above a last one, none is.
   pub set_up : (last : ℕ) → AllUpTo last rows → AllUpTo last (set rows at d)
   set_up last h i l = let long = length-set rows at d in let o = h i (omega arith) in omega (arith, set_number i)
 
-  -- A number that is live after the row died was live before, in another row.
+  -- The row with which it is replaced is dead.
   module _ (dead : d.key ≡ None) where
+    -- A row that is live then was live before, and is at another place.
     pub still_live : (j k : ℕ) → (row_at (set rows at d) j).key ≡ Some k → (j ≢ at) × ((row_at rows j).key ≡ Some k)
     still_live j k e = by (nat_eq j at) refl where
       by : (b : Bool) → nat_eq j at ≡ b → (j ≢ at) × ((row_at rows j).key ≡ Some k)
       by true f = absurd (none_some k (sym (ap (λ i. (row_at (set rows at d) i).key) (eqb-true j at f) ∙ ap (λ r. r.key) set_same ∙ dead) ∙ e))
       by false f = let apart = eqb-false j at f in (apart, ap (λ r. r.key) (sym (set_other j apart)) ∙ e)
 
+    -- A row that was dead is dead then.
     pub still_dead : (j : ℕ) → (row_at rows j).key ≡ None → (row_at (set rows at d) j).key ≡ None
     still_dead j e = by (nat_eq j at) refl where
       by : (b : Bool) → nat_eq j at ≡ b → (row_at (set rows at d) j).key ≡ None

@@ -63,21 +63,26 @@ dead_read rows at r l none = by (row_at rows at).key (none ∙ ap is_some (key_r
   by (Some k) e = absurd (false≢true e)
 
 module _ (rows : List OrderRowView) (rise : Rise rows) (n : ℕ) where
+  -- The number of a row is at most that of a later one.
   pub climb : (i j : ℕ) → i ≤ j → j < length rows → (row_at rows i).ino ≤ (row_at rows j).ino
   climb i j le l = elim (cases_lt i j) [
     | inl m ↦ let o = rise i j m l in omega arith
     | inr m ↦ let e : i ≡ j = omega arith in omega (arith, ap (λ k. (row_at rows k).ino) e)
   ]
 
+  -- The rows are sorted by their numbers.
   pub rising : IsNonDecreasingBy (λ row. row.ino) rows
   rising = IsNonDecreasingBy-from_default (λ (row : OrderRowView). row.ino) rows none_row climb
 
+  -- The rows are sorted by how their numbers compare with n.
   pub compared : IsNonDecreasingBy (λ row. ordering_index (nat_cmp row.ino n)) rows
   compared = IsNonDecreasingBy-from_default (λ (row : OrderRowView). ordering_index (nat_cmp row.ino n)) rows none_row (λ i j le l. let o = climb i j le l in grind (arith, nat_tests))
 
+  -- A row that a search for n finds has this number.
   pub found : (at : ℕ) → IsBinarySearchResult (λ row. nat_cmp row.ino n) rows (Ok at) → (row_at rows at).ino ≡ n
   found at equal = ranked (row_at rows at).ino n _ (sym (equal none_row))
 
+  -- Where a search for n finds no row, the number has no key.
   pub missed : (at : ℕ) → IsSearchInRange (Err at) (length rows) → IsBinarySearchResult (λ row. nat_cmp row.ino n) rows (Err at) → held rows n ≡ None
   missed at within parted = nowhere rows n (λ i l e. elim (cases_lt i at) [
     | inl m ↦ let o = ranked (row_at rows i).ino n _ (sym ((parted compared).0 i none_row (omega arith) m)) in omega arith
@@ -91,6 +96,7 @@ module _ (rows : List OrderRowView) (rise : Rise rows) (n : ℕ) where
 -- The live numbers above n are behind the rows up to n and the dead ones after them.
 module _ (rows : List OrderRowView) (rise : Rise rows) (n from at : ℕ) (low : (i : ℕ) → i < from → (row_at rows i).ino ≤ n)
     (dead : (i : ℕ) → from ≤ i → i < at → (row_at rows i).key ≡ None) where
+  -- A number above n has no key if it is below that of the row at this place, or none is there.
   pub passed : (q : ℕ) → n < q → (at < length rows → q < (row_at rows at).ino) → held rows q ≡ None
   passed q above before = by (held rows q) refl where
     nowhere_live : (i k : ℕ) → i < length rows → (row_at rows i).ino ≡ q → (row_at rows i).key ≡ Some k → ⊥
@@ -108,8 +114,10 @@ module _ (rows : List OrderRowView) (rise : Rise rows) (n from at : ℕ) (low : 
 
 -- The rows from the partition on are above n, those before it are not.
 module _ (rows : List OrderRowView) (n from : ℕ) (parted : IsPartitionPoint (λ row. leb row.ino n ≡ true) (λ row. leb row.ino n ≡ false) rows from) (within : from ≤ length rows) where
+  -- A row before the partition has a number up to n.
   pub up_to : (i : ℕ) → i < from → (row_at rows i).ino ≤ n
   up_to i l = leb-true (row_at rows i).ino n (parted.0 i none_row (omega arith) l)
 
+  -- A row from the partition on has a number above n.
   pub beyond : (i : ℕ) → from ≤ i → i < length rows → n < (row_at rows i).ino
   beyond i m l = leb-false (row_at rows i).ino n (parted.1 i none_row m l)

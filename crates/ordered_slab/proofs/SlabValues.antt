@@ -26,6 +26,7 @@ module _ {V : Type 0} where
   abbrev under : Slab (NumberedValue V) → Option ℕ → Option V
   under s o = option_map_or (value_at s) o None
 
+  -- Among the values of some numbers, each of these has its own, and no other number has one.
   from_at : (m : Map ℕ) (qs : List ℕ) (s : Slab (NumberedValue V)) (q : ℕ) → map.get (values_from m qs s) q ≡ cond (list_any (eq_by_cmp nat_cmp q) qs) (value_of m s q) None
   from_at m [] s q = get-empty nat_cmp q
   from_at m (x ∷ xs) s q = by (from_at m xs s q) (value_of m s x) refl where
@@ -90,6 +91,7 @@ module _ {V : Type 0} (m : Map ℕ) (s : Slab (NumberedValue V)) (h : AreInPlace
   pub missing : (q k : ℕ) → map.get m q ≡ Some k → slab.get s k ≡ None → ⊥
   missing q k at none = none_some q (sym (ap (option_map (λ x. x.file)) none) ∙ h.kept q k at)
 
+  -- The slab has an entry at the key of each number.
   pub keyed : (q k : ℕ) → map.get m q ≡ Some k → slab.ContainsKey s k
   keyed q k at = by (slab.get s k) refl where
     by : (o : Option (NumberedValue V)) → slab.get s k ≡ o → slab.ContainsKey s k
@@ -119,12 +121,15 @@ module _ {V : Type 0} (m : Map ℕ) (s : Slab (NumberedValue V)) (h : AreInPlace
 module _ {V : Type 0} (m n : Map ℕ) (s t : Slab (NumberedValue V)) (f key : ℕ) (w : Option ℕ) (x : Option (NumberedValue V))
     (keys : (q : ℕ) → map.get n q ≡ cond (nat_eq f q) w (map.get m q)) (slots : slab.Updates s t key x)
     (apart : (q k : ℕ) → (f ≡ q → ⊥) → map.get m q ≡ Some k → k ≡ key → ⊥) where
+  -- Any other number has the key that it had.
   other_key : (q : ℕ) → nat_eq f q ≡ false → map.get n q ≡ map.get m q
   other_key q e = keys q ∙ ap (λ b. cond b w (map.get m q)) e
 
+  -- The entry at the key of any other number is as before.
   other_entry : (q k : ℕ) → nat_eq f q ≡ false → map.get m q ≡ Some k → slab.get t k ≡ slab.get s k
   other_entry q k e at = slots.others k (apart q k (eqb-false f q e) at)
 
+  -- The value of any other number is as before.
   other_value : (q : ℕ) → nat_eq f q ≡ false → (o : Option ℕ) → map.get m q ≡ o → under t o ≡ under s o
   other_value q e None at = refl
   other_value q e (Some k) at = ap (option_map (λ x. x.value)) (other_entry q k e at)
@@ -163,27 +168,32 @@ module _ {V : Type 0} (m n : Map ℕ) (s t : Slab (NumberedValue V)) (f key : �
         elsewhere k y far (h.found k y (sym (slots.others k far) ∙ at)) (nat_eq f y.file) refl
 
 module _ {V : Type 0} where
-  -- A map with a value at f, and one without f.
+  -- A map with a value put in at f has it there, and elsewhere what it had.
   with_value : (m : Map V) (f : ℕ) (v : V) (q : ℕ) → cond (nat_eq f q) (Some v) (map.get m q) ≡ map.get (map.insert m f v) q
   with_value m f v q = ap (λ b. cond b (Some v) (map.get m q)) (nat_eq_equiv.symm f q ∙ sym (unsigned_tied q f)) ∙ sym (get-insert nat_cmp_total m f v q)
 
+  -- A map without f has nothing at f, and elsewhere what it had.
   without_value : (m : Map V) (f : ℕ) (q : ℕ) → cond (nat_eq f q) None (map.get m q) ≡ map.get (map.remove m f) q
   without_value m f q = ap (λ b. cond b None (map.get m q)) (nat_eq_equiv.symm f q ∙ sym (unsigned_tied q f)) ∙ sym (get-remove nat_cmp_total m f q)
 
 -- A value more, in an empty key.
 module _ {V : Type 0} (m n : Map ℕ) (s t : Slab (NumberedValue V)) (f key : ℕ) (x : NumberedValue V) (h : AreInPlace m s) (vacant : slab.get s key ≡ None)
     (inserts : n ≡ map.insert m f key) (new : map.get m f ≡ None) (writes : slab.Updates s t key (Some x)) where
+  -- The number has this key, and the others keep theirs.
   put_keys : (q : ℕ) → map.get n q ≡ cond (nat_eq f q) (Some key) (map.get m q)
   put_keys q = ap (λ n. map.get n q) inserts ∙ sym (with_value m f key q)
 
+  -- The number has this value, and the others keep theirs.
   pub put_values : values_of n t ≡ map.insert (values_of m s) f x.value
   put_values = same _ _ (λ q.
       values_then m n s t f key (Some key) (Some x) put_keys writes (empty m s h f key vacant) q
       ∙ ap (λ o. cond (nat_eq f q) (option_map (λ x. x.value) o) (map.get (values_of m s) q)) writes.changed ∙ with_value (values_of m s) f x.value q)
 
+  -- The number had no value before.
   pub put_new : map.contains_key (values_of m s) f ≡ false
   put_new = ap is_some (looked m s f ∙ ap (under s) new)
 
+  -- All are in place, if the entry has this number and the slab has one entry more.
   pub put_in_place : x.file ≡ f → slab.slab_len t ≡ slab.slab_len s + 1 → AreInPlace n t
   put_in_place ino more = in_place_then m n s t f key (Some key) (Some x) put_keys writes (empty m s h f key vacant) h
       (λ k is. ap (λ j. option_map (λ x. x.file) (slab.get t j)) (sym (some_same key k is)) ∙ ap (option_map (λ x. x.file)) writes.changed ∙ ap Some ino)
@@ -194,18 +204,22 @@ module _ {V : Type 0} (m n : Map ℕ) (s t : Slab (NumberedValue V)) (f key : �
 -- A value less.
 module _ {V : Type 0} (m n : Map ℕ) (s t : Slab (NumberedValue V)) (f key : ℕ) (h : AreInPlace m s)
     (removes : n ≡ map.remove m f) (was : map.get m f ≡ Some key) (writes : slab.Updates s t key None) where
+  -- The number has no key, and the others keep theirs.
   take_keys : (q : ℕ) → map.get n q ≡ cond (nat_eq f q) None (map.get m q)
   take_keys q = ap (λ n. map.get n q) removes ∙ sym (without_value m f q)
 
+  -- The number has no value, and the others keep theirs.
   pub take_values : values_of n t ≡ map.remove (values_of m s) f
   take_values = same _ _ (λ q. values_then m n s t f key None None take_keys writes (own m s h f key was) q ∙ without_value (values_of m s) f q)
 
+  -- The number had a value before.
   was_there : map.contains_key (values_of m s) f ≡ true
   was_there = ap is_some (looked m s f ∙ ap (under s) was) ∙ by (slab.get s key) refl where
     by : (o : Option (NumberedValue V)) → slab.get s key ≡ o → is_some (option_map (λ x. x.value) o) ≡ true
     by None none = absurd (missing m s h f key was none)
     by (Some x) at = refl
 
+  -- All are in place, if the slab has one entry less.
   pub take_in_place : slab.slab_len t + 1 ≡ slab.slab_len s → AreInPlace n t
   take_in_place less = in_place_then m n s t f key None None take_keys writes (own m s h f key was) h
       (λ k is. absurd (none_some k is)) (λ y is. absurd (none_some y is)) (λ k at. some_same k key (sym at ∙ was))
@@ -226,12 +240,14 @@ within (y ∷ xs) (suc k) x e = let more = within xs k x e in omega arith
 
 -- A value is changed in place.
 module _ {V : Type 0} (m : Map ℕ) (s : Slab (NumberedValue V)) (f key : ℕ) (x y : NumberedValue V) (h : AreInPlace m s) (was : map.get m f ≡ Some key) (at : slab.get s key ≡ Some x) where
+  -- The slab changes at this key alone.
   wrote : slab.Updates s (slab.with_value s key y) key (Some y)
   wrote = record {
     changed = get_or-set_same s.slots key (Some y) None (within s.slots key x at);
     others = λ other apart. get_or-set_other s.slots key other (Some y) None apart;
   }
 
+  -- The number has this key already.
   stays : (q : ℕ) → map.get m q ≡ cond (nat_eq f q) (Some key) (map.get m q)
   stays q = by (nat_eq f q) refl where
     by : (b : Bool) → nat_eq f q ≡ b → map.get m q ≡ cond b (Some key) (map.get m q)
@@ -242,6 +258,7 @@ module _ {V : Type 0} (m : Map ℕ) (s : Slab (NumberedValue V)) (f key : ℕ) (
   pub there : map.get (values_of m s) f ≡ Some x.value
   there = looked m s f ∙ ap (under s) was ∙ ap (option_map (λ x. x.value)) at
 
+  -- The number has the new value, and the others keep theirs.
   pub write_values : values_of m (slab.with_value s key y) ≡ map.insert (values_of m s) f y.value
   write_values = same _ _ (λ q.
       values_then m m s (slab.with_value s key y) f key (Some key) (Some y) stays wrote (own m s h f key was) q
@@ -262,6 +279,7 @@ module _ {V : Type 0} (m : Map ℕ) (s : Slab (NumberedValue V)) (f key : ℕ) (
       let both = sum_by-set weight s.slots key (Some y) None (within s.slots key x at) in
       omega (arith, one, both)
 
+  -- All are in place still, if the entry keeps its number.
   pub write_in_place : y.file ≡ x.file → AreInPlace m (slab.with_value s key y)
   write_in_place ino = in_place_then m m s (slab.with_value s key y) f key (Some key) (Some y) stays wrote (own m s h f key was) h
       (λ k is. ap (λ j. option_map (λ x. x.file) (slab.get (slab.with_value s key y) j)) (sym (some_same key k is)) ∙ ap (option_map (λ x. x.file)) wrote.changed ∙ ap Some number)
@@ -272,9 +290,11 @@ module _ {V : Type 0} (m : Map ℕ) (s : Slab (NumberedValue V)) (f key : ℕ) (
 
 -- A hint that is written beside a value changes no value.
 module _ {V : Type 0} (m : Map ℕ) (s : Slab (NumberedValue V)) (key : ℕ) (x y : NumberedValue V) (h : AreInPlace m s) (at : slab.get s key ≡ Some x) where
+  -- All values are as before, if the entry keeps its value.
   pub noted : y.value ≡ x.value → values_of m (slab.with_value s key y) ≡ values_of m s
   noted e = write_same m s x.file key x y h (h.found key x at) at e
 
+  -- All are in place still, if the entry keeps its number.
   pub noted_in_place : y.file ≡ x.file → AreInPlace m (slab.with_value s key y)
   noted_in_place e = write_in_place m s x.file key x y h (h.found key x at) at e
 
