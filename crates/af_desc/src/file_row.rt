@@ -85,8 +85,8 @@ impl FileRow {
         self.dirty_at > 0
     }
 
-    /// Marks it as dirty, at the first position of that list until `set_list_index` sets another,
-    /// or as not dirty.
+    /// Records whether it is dirty: its readiness may have changed. A dirty file has the first
+    /// position in the list of dirty files until `set_list_index` sets another.
     #[inline(always)]
     pub fn set_dirty(&mut self, dirty: bool)
         ensures dirty { nat_lt 0 self.new.dirty_at ≡ dirty }

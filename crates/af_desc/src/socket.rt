@@ -30,7 +30,7 @@ enum Form {
     Idle(SockType),
     /// Has no name, and is connected to this live peer.
     Connected(SockType, FileRef),
-    /// Has no name, and was connected; the peer is gone.
+    /// Has no name, and was connected; the peer was freed.
     HungUp(SockType),
     /// Has a name.
     Named(SockType, Box<NamedSocket>),
@@ -53,7 +53,7 @@ enum Link {
     Listening(u32),
     /// Connected to this live peer.
     Connected(FileRef),
-    /// Was connected; the peer is gone.
+    /// Was connected; the peer was freed.
     HungUp,
 }
 
@@ -134,7 +134,7 @@ impl Endpoint {
         }
     }
 
-    /// Returns its connection state once more.
+    /// Returns a copy of its connection state, which finds the peer as a file.
     fn link(&self) -> Link
         ensures { state_of result ≡ self.now.state }
     {
@@ -232,7 +232,7 @@ impl Endpoint {
         }
     }
 
-    /// Marks the peer as gone.
+    /// Records that the peer was freed.
     pub fn hang_up(&mut self)
         ensures { self.new ≡ hung_up self.old }
     {
@@ -256,7 +256,7 @@ impl Endpoint {
 }
 
 impl Link {
-    /// Returns the same state once more.
+    /// Returns a copy of this state.
     fn duplicate(&self) -> Link
         ensures { result ≡ self.now }
     {

@@ -7,7 +7,7 @@ use Rattle.af_base.specs.World.{Map}
 use Rattle.af_mark.specs.declared.color.Color.{Color}
 use Rattle.af_mark.specs.declared.color.Color.TheVariants.{Black, Grey, White}
 
--- The colour of each file that was born and not forgotten since, and the bound of the pass.
+-- The colour of each file that was made and not forgotten since, and the bound of the pass.
 pub record MarksView : Type 0 where
   pub colors : Map Color
   pub bound : ℕ
@@ -24,7 +24,7 @@ is_grey_color White = false
 is_grey_color Grey = true
 is_grey_color Black = false
 
--- Whether f is known: it was born, and not forgotten since.
+-- Whether f is known: it was made, and not forgotten since.
 abbrev pub knows : MarksView → ℕ → Bool
 knows m f = map.contains_key m.colors f
 
@@ -40,11 +40,11 @@ is_grey m f = option_map_or is_grey_color (map.get m.colors f) false
 abbrev pub is_white : MarksView → ℕ → Bool
 is_white m f = knows m f && not (is_marked m f)
 
--- Whether a pass has still to mark f: it was born before, and is not marked.
+-- Whether a pass has still to mark f: it was made before, and is not marked.
 abbrev pub is_unmarked : MarksView → ℕ → Bool
 is_unmarked m f = nat_lt f m.bound && is_white m f
 
--- f was born: it is known, and not marked.
+-- f was made: it is known, and not marked.
 abbrev pub born : ℕ → MarksView → MarksView
 born f m = record m { colors = map.insert m.colors f White }
 
@@ -52,7 +52,7 @@ born f m = record m { colors = map.insert m.colors f White }
 abbrev pub forgotten : ℕ → MarksView → MarksView
 forgotten f m = record m { colors = map.remove m.colors f }
 
--- f is grey where it was born before the pass and not marked.
+-- f is grey where it was made before the pass and not marked.
 abbrev pub shaded : ℕ → MarksView → MarksView
 shaded f m = if nat_lt f m.bound && is_white m f then record m { colors = map.insert m.colors f Grey } else m
 
@@ -69,10 +69,10 @@ visited scanned tabled f m = if nat_lt 0 tabled then marked_once scanned f m els
 abbrev pub blackened : ℕ → MarksView → MarksView
 blackened f m = if is_grey m f then record m { colors = map.insert m.colors f Black } else m
 
--- Whether f, of this colour, was born before the pass and is not marked.
+-- Whether f, of this colour, was made before the pass and is not marked.
 abbrev pub white_at : ℕ → ℕ → Color → Bool
 white_at bound f c = nat_lt f bound && not (is_mark c)
 
--- How many known files were born before the pass and are not marked.
+-- How many known files were made before the pass and are not marked.
 abbrev pub white_count : MarksView → ℕ
 white_count m = count_by (λ e. white_at m.bound e.0 e.1) (map.entries m.colors)

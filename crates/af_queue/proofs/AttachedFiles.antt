@@ -1,4 +1,4 @@
--- The files that travel with messages, some at a time.
+-- The attached files of messages, some at a time.
 use Rattle.std.proofs.Common.{◌≡◌, ◌≤◌, ℕ, ◌-◌, ◌*◌, List, [], ◌∷◌, ◌++◌, drop, length, take, min, refl, sym, ap, ◌∙◌, arith}
 use Rattle.std.proofs.lemmas.List.{drop-append-le, length-append, take_min}
 use Rattle.std.proofs.Math.Seq.{drop-append-add}

@@ -39,8 +39,8 @@ IsPath s f l k (suc n) =
     × (list_any (nat_eq k) (keys_from s x.next n) ≡ false) × (n ≡ zero → k ≡ l)
     × IsMessageWithin x.message × IsPath s f l x.next n)
 
--- The nodes of a queue, 64 at most, are linked, and are that file's. Files travel with its messages
--- only if it says so.
+-- The nodes of a queue, 64 at most, are linked, and are that file's. Its messages have attached
+-- files only if it says so.
 pub record IsChain (s : Slab Node) (c : Chain) (f : ℕ) : Type 0 where
   pub few : c.len ≤ MAX_MESSAGES
   pub path : IsPath s f c.last c.first c.len

@@ -18,7 +18,7 @@ pub struct Chain {
     pub first: u32,
     pub last: u32,
     pub len: u8,
-    /// Whether files may travel with one of them: if not, nobody needs to look at them.
+    /// Whether one of them may have attached files. If not, a search for files skips the queue.
     pub has_files: bool,
 }
 

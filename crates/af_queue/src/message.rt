@@ -12,10 +12,10 @@ use std::alloc::{AllocError, Global};
 use std::marker::Model;
 use std::mem;
 
-/// The files that travel with a message: one needs no allocation.
+/// The attached files of a message. One needs no allocation.
 pub type Attached = SmallVec<FileRef, 1>;
 
-/// A message in a queue: its bytes, the files that travel with it, and who is charged for them.
+/// A message in a queue: its bytes, its attached files, and the user who is charged for them.
 #[derive(Drop)]
 pub struct Msg {
     bytes: Bytes,
@@ -84,7 +84,7 @@ impl Msg {
         self.attached.as_slice()
     }
 
-    /// Returns whether files travel with it.
+    /// Returns whether it has attached files.
     #[inline(always)]
     pub fn has_files(&self) -> bool
         ensures { result ≡ has_files self.now }
@@ -163,7 +163,8 @@ impl Msg {
         Ok(Taken::new(bytes, attached, self.user(), self.len() > max))
     }
 
-    /// Gives a receive of at most this many bytes what it takes of it as a packet. Takes no memory.
+    /// Writes the result of receiving it as a packet: its attached files, and its first bytes, at
+    /// most this many. Takes no memory.
     #[inline(always)]
     pub(crate) fn give(self, max: usize, taken: &mut Taken)
         ensures { taken.new ≡ record {

@@ -37,7 +37,7 @@ pub enum Received {
         /// Descriptors of the message were not installed (MSG_CTRUNC).
         ctrunc: bool,
     },
-    /// Nothing is left to receive, and the peer is gone: recvmsg(2) answers 0.
+    /// Nothing is left to receive, and the peer was freed: recvmsg(2) answers 0.
     End,
 }
 
@@ -159,7 +159,7 @@ impl Engine {
 
     /// Returns the socket that a receive or a peek takes from, and fills an empty list with the
     /// free descriptors at which it installs files; `None` where nothing is left to receive, and
-    /// the peer is gone. The refusals are those of `recv`.
+    /// the peer was freed. The refusals are those of `recv`.
     #[inline(always)]
     fn prepare_receive(
         &self,
@@ -198,7 +198,8 @@ impl Engine {
     /// Descriptors beyond `max_fds` or the free numbers are closed (unix(7), SCM_RIGHTS;
     /// MSG_CTRUNC). Refused, in this order: ESRCH, EBADF, ENOTSOCK, EINVAL (`max_bytes` is not 1 to
     /// 65,536), ENOTCONN, EAGAIN, ENOMEM.
-    // Apart, so that no other step clears room on the stack for what it gives.
+    // The compiler zeroes room for its answer at the entry of each function into which it is
+    // inlined, so it is kept apart.
     #[inline(never)]
     pub fn recv(
         &mut self,
@@ -230,7 +231,8 @@ impl Engine {
     /// Installed descriptors refer to files that are then in a table and in the queue; the others
     /// are in the queue alone. A second peek sees the same. Refused, in this order: ESRCH, EBADF,
     /// ENOTSOCK, EINVAL (`max_bytes` is not 1 to 65,536), ENOTCONN, EAGAIN, ENOMEM.
-    // Apart, so that no other step clears room on the stack for what it gives.
+    // The compiler zeroes room for its answer at the entry of each function into which it is
+    // inlined, so it is kept apart.
     #[inline(never)]
     pub fn peek(
         &mut self,

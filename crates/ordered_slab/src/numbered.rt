@@ -143,7 +143,7 @@ impl<T> OrderedSlab<T> {
         ensures value { option_copied_mut result ≡ map.get self.old.values file.now }
     {
         let key = file.key();
-        // A way out of its own, so that the entry is looked at once.
+        // Returns early, so that a right hint costs one look at the entry.
         if stands_at(&self.slab, key, file) {
             return Some(&mut self.slab[key].value);
         }

@@ -24,8 +24,8 @@ const PASSED_AT_ONCE: usize = 16;
 /// The key of a dead row. No slab has a value under it.
 const NO_KEY: usize = usize::MAX;
 
-/// A number and the key under which it is to be found. A row with no key is dead: its number is
-/// gone, or was moved.
+/// A number and the key under which it is to be found. A row with no key is dead: its number was
+/// removed, or was moved to another row.
 #[derive(Drop)]
 struct OrderRow {
     /// The number, with the key as a hint, as a walk returns it.
@@ -101,7 +101,7 @@ impl OrderRow {
         self.file.duplicate()
     }
 
-    /// Returns the same row once more.
+    /// Returns a copy of this row.
     #[inline(always)]
     fn duplicate(&self) -> OrderRow
         ensures { result ≡ self.now }
@@ -304,7 +304,7 @@ impl Order {
         self.search_next(ino, at)
     }
 
-    /// Returns the same, where the numbers are not consecutive.
+    /// Returns the answer of `next_after` by a search, where the numbers are not consecutive.
     #[inline(never)]
     fn search_next(&self, ino: Ino, at: usize) -> Option<(FileRef, usize)>
         ensures above { IfSome result (λ n. ino < n.0) }
