@@ -247,7 +247,7 @@ def streams(program: Program) -> Iterator[Check]:
     for taken in range(len(REPLIES)):
         yield writes_at_most(program, taken, SCRIPT, Answer(1, REPLIES[:taken], CANNOT_WRITE))
     yield writes_at_most(program, len(REPLIES), SCRIPT, Answer(0, REPLIES))
-    # What was gathered is written before the bad line is reported. If that fails, the failure is reported.
+    # The gathered replies are written before the bad line is reported. If that fails, the failure is reported.
     yield writes_at_most(program, 0, BAD_SCRIPT, Answer(1, b"", CANNOT_WRITE))
     yield writes_at_most(program, 100, BAD_SCRIPT, unreadable(4, b"pid 1\nfd 0\nfd 1\n"))
     yield writes_at_most(program, 0, MUCH, Answer(1, b"", CANNOT_WRITE))

@@ -1,4 +1,4 @@
--- What can be said of a call under a lock. Definitions that name no manual page are this project's
+-- Facts that hold of a call under a lock. Definitions that name no manual page are this project's
 -- own.
 use Rattle.std.specs.Prelude.{ℕ, Result, Ok, Err}
 use Rattle.af_base.specs.declared.errno.Errno.{Errno}

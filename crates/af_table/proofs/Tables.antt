@@ -176,7 +176,7 @@ taken_out ws vs fs n f bits = same_table vs _ _ (λ q. by q (nat_eq q n) refl) w
       let kept : is_taken vs q ≡ is_taken ws q = bits q ∙ ap (λ b. cond b false (is_taken ws q)) e in
       ap (λ b. cond b (slice_get (slice_set fs n f) q) None) kept ∙ ap (λ o. cond (is_taken ws q) o None) (slice_get-set_other fs n q f (eqb-false q n e)) ∙ sym (remove-other (table_of ws fs) n q e ∙ table_at ws fs q)
 
--- What a slot and its bit say of a descriptor.
+-- The file of a descriptor, by its slot and its bit.
 pub ruleset table_reads = (table_clear, table_set, taken_low, blank_at)
 
 -- A descriptor is taken into use.

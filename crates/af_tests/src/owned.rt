@@ -13,7 +13,7 @@ fn make_pair(owned: &mut Owned<u64>) -> Result<(), Errno> {
     Ok(())
 }
 
-/// Both sockets are told, and then none.
+/// Checks that both sockets are listed as changed, and then none.
 fn tells(rt: &impl Abort, owned: &mut Owned<u64>) {
     assert!(rt; make_pair(owned).is_ok() && owned.changed_sockets().len() == 2);
     assert!(rt; owned.take_released().is_none() && owned.changed_sockets().is_empty());

@@ -136,7 +136,7 @@ module _ (packed rows : List OrderRowView) (read last : ℕ) (h : AreRows packed
 
   -- The first row that was not read is moved.
   module _ (n : ℕ) (x : IsLiveAt rows n read) (d : OrderRowView) (number : d.ino ≡ n) (gone : d.key ≡ None) where
-    -- The row as it stands among the packed ones.
+    -- The row as one of the packed ones.
     abbrev moved : OrderRowView
     moved = record { ino = n; key = Some x.0 }
 

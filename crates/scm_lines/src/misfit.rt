@@ -37,7 +37,7 @@ impl Misfit {
         }
     }
 
-    /// Returns the misfit as one of a longer text: this many bytes stand behind those looked at.
+    /// Returns the misfit as one of a longer text: this many bytes follow those looked at.
     pub fn before(self, rest: &[u8]) -> Misfit
         requires { self.left + length rest.now < 2 ^ 64 }
         ensures reason { result.reason ≡ self.reason }

@@ -136,8 +136,8 @@ pub fn drive_from<R: Threads + Wait + Sync, G: Gate + Sync>(
 
 /// The use of a layer by a test.
 pub trait Play {
-    /// It is done from these seats, which are all that the layer has. `None` says that it could
-    /// not be done. An impl has no bound `Sync` but by the clause.
+    /// Plays from these seats, which are all that the layer has. `None` says that it could not be
+    /// done. An impl has no bound `Sync` but by the clause.
     fn on<R: Abort + Threads + Wait + Sync>(
         &self,
         rt: &R,

@@ -12,7 +12,7 @@ use std::test::Fail;
 use std::thread;
 use std::thread::Threads;
 
-/// Returns the reply that an answer or a refusal stands for.
+/// Returns the reply of an answer or a refusal.
 fn reply_to<T: Into<Reply>>(outcome: Result<T, Errno>) -> Reply {
     match outcome {
         Ok(answer) => answer.into(),
