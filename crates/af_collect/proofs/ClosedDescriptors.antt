@@ -27,7 +27,7 @@ use Rattle.af_collect.specs.Losing.{without_descriptor}
 use Rattle.af_collect.specs.StoreView.{StoreView}
 use Rattle.af_collect.specs.contracts.holdings.Holdings.{the_view}
 use Rattle.af_collect.specs.declared.holdings.Holdings.TheInside.{Inside}
-use Rattle.af_collect.specs.declared.parts.Collector.{Collector}
+use Rattle.af_collect.specs.declared.collector.Collector.{Collector}
 use Rattle.af_collect.proofs.Agreement.{agrees-refs}
 use Rattle.af_collect.proofs.Bounds.{can-drop-table}
 use Rattle.af_collect.proofs.Exact.{exact-gone, exact-uninstall, world-is}
@@ -52,7 +52,7 @@ module _ (p : Collector) (h : Inside) (pid fd : ℕ) (free : table_at (the_view 
   stands-unopened = stands-same p h procs same-unopened next
 
   -- And what a caller sees.
-  pub seen-unopened : (o : StoreView) → the_view h ≡ p.places → shown p p.places ≡ o → procs.rows ≡ h.procs.rows → shown p (record (the_view h) { world = world_of procs h.files h.ledger; rows = procs.rows }) ≡ o
+  pub seen-unopened : (o : StoreView) → the_view h ≡ p.holdings → shown p p.holdings ≡ o → procs.rows ≡ h.procs.rows → shown p (record (the_view h) { world = world_of procs h.files h.ledger; rows = procs.rows }) ≡ o
   seen-unopened o opened is rows = seen-same p h procs same-unopened next o opened is ∙ ap (λ r. record o { rows = r }) (rows ∙ ap (λ (t : HoldingsView). t.rows) opened ∙ ap (λ (t : StoreView). t.rows) is)
 
 -- A descriptor that is open.

@@ -19,7 +19,7 @@ use Rattle.af_collect.specs.HoldingsView.{world_of}
 use Rattle.af_collect.specs.StoreView.{StoreView}
 use Rattle.af_collect.specs.contracts.holdings.Holdings.{the_view}
 use Rattle.af_collect.specs.declared.holdings.Holdings.TheInside.{Inside}
-use Rattle.af_collect.specs.declared.parts.Collector.{Collector}
+use Rattle.af_collect.specs.declared.collector.Collector.{Collector}
 
 -- Where it is written back as it was, nothing changes.
 pub back-same : (m : Map Process) (p : ℕ) (q v : Process) → map.get m p ≡ Some q → v ≡ q → map.insert m p v ≡ m
@@ -39,7 +39,7 @@ module _ (p : Collector) (h : Inside) (procs : Procs) (processes : procs.process
   stands-same was = both-same _ (the_view h).world _ (kept_of h.files.counts h.ledger) _ h.files.marks (world-is _ _ processes refl refl next refl) refl refl was.0 was.1
 
   -- And a caller sees no change, but for the room in tables.
-  pub seen-same : (o : StoreView) → the_view h ≡ p.places → shown p p.places ≡ o → shown p (record (the_view h) { world = world_of procs h.files h.ledger; rows = procs.rows }) ≡ record o { rows = procs.rows }
+  pub seen-same : (o : StoreView) → the_view h ≡ p.holdings → shown p p.holdings ≡ o → shown p (record (the_view h) { world = world_of procs h.files h.ledger; rows = procs.rows }) ≡ record o { rows = procs.rows }
   seen-same o opened is =
       (λ i. shown p (record (the_view h) { world = record (the_view h).world { processes = processes i; next_pid = next i }; rows = procs.rows }))
       ∙ ap {B = StoreView} (λ t. shown p (record t { rows = procs.rows })) opened ∙ ap {A = StoreView} {B = StoreView} (λ t. record t { rows = procs.rows }) is
@@ -63,5 +63,5 @@ module _ (p : Collector) (h : Inside) (pid : ℕ) (q : ProcessView) (at : map.ge
   stands-lent was = subst (λ f. BothInvariants p lent f h.ledger) (sym files) (stands-same p h lent back refl was)
 
   -- And an error tells a caller of no change, but for the room in tables.
-  pub error-lent : {T E : Type 0} (r : Result T E) (o : StoreView) → the_view h ≡ p.places → shown p p.places ≡ o → OnErr r (shown p (the_view (record h { procs = lent; files = fs })) ≡ record o { rows = lent.rows })
+  pub error-lent : {T E : Type 0} (r : Result T E) (o : StoreView) → the_view h ≡ p.holdings → shown p p.holdings ≡ o → OnErr r (shown p (the_view (record h { procs = lent; files = fs })) ≡ record o { rows = lent.rows })
   error-lent r o opened is = at-error r (ap (λ f. shown p (the_view (record h { procs = lent; files = f }))) files ∙ seen-same p h lent back refl o opened is)

@@ -46,7 +46,7 @@ use Rattle.af_collect.proofs.TablePlaces.{covers_install, covers_install_lowest,
 use Rattle.af_collect.proofs.SocketChanges.{covers_queued, covers_same, moves_queued, moves_same}
 use Rattle.af_collect.specs.contracts.holdings.Holdings.{the_view}
 use Rattle.af_collect.specs.declared.holdings.Holdings.TheInside.{Inside}
-use Rattle.af_collect.specs.declared.parts.Collector.{Collector}
+use Rattle.af_collect.specs.declared.collector.Collector.{Collector}
 use Rattle.af_collect.proofs.PlaceChanges.{kept_made, kept_socket, kept_tables, made_spared}
 use Rattle.af_collect.proofs.StoreInvariant.{BothInvariants, both-same, seen-world, shown}
 
@@ -123,7 +123,7 @@ module _ (p : Collector) (h : Inside) (was : BothInvariants p h.procs h.files h.
   begun = p.begun.value.world
 
   -- A file more, which holds nothing, at a free number.
-  pub stands-made : (o : StoreView) → the_view h ≡ p.places → shown p p.places ≡ o → (pid fd : ℕ) → Opens o.world pid fd → (x : File) → contents x ≡ [] → (is_full w 1 ≡ false → IsExact w k → IsExact (add_file w x) (record k { counts = map.insert k.counts n uncounted }))
+  pub stands-made : (o : StoreView) → the_view h ≡ p.holdings → shown p p.holdings ≡ o → (pid fd : ℕ) → Opens o.world pid fd → (x : File) → contents x ≡ [] → (is_full w 1 ≡ false → IsExact w k → IsExact (add_file w x) (record k { counts = map.insert k.counts n uncounted }))
       → (procs : Procs) (f : ℕ) → procs.processes ≡ change_at (installed fd f) h.procs.processes pid → procs.next_pid ≡ h.procs.next_pid → f ≡ n → (fs : FilesView) → fs ≡ entered Table x h.files → BothInvariants p procs fs h.ledger
   stands-made o opened seen pid fd needs x empty exact procs f processes next is fs files =
       let v = add_file w x in
@@ -140,7 +140,7 @@ module _ (p : Collector) (h : Inside) (was : BothInvariants p h.procs h.files h.
       (kept_made x empty was.0.whole.files_numbered was.1)))
 
   -- Two sockets more, connected to each other, at the two lowest free numbers.
-  pub stands-pair : (o : StoreView) → the_view h ≡ p.places → shown p p.places ≡ o → (kind : SockType) (pid lower higher : ℕ) → Pairs o.world pid lower higher
+  pub stands-pair : (o : StoreView) → the_view h ≡ p.holdings → shown p p.holdings ≡ o → (kind : SockType) (pid lower higher : ℕ) → Pairs o.world pid lower higher
       → (procs : Procs) → procs.processes ≡ (install (install w pid lower n) pid higher (n + 1)).processes → procs.next_pid ≡ h.procs.next_pid → (files : FilesView) → files ≡ paired Table kind h.files → BothInvariants p procs files h.ledger
   stands-pair o opened seen kind pid lower higher needs procs processes next files is =
       let v = with_pair w kind in

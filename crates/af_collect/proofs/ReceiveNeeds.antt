@@ -15,7 +15,7 @@ use Rattle.af_collect.specs.Receiving.{CanReceive}
 use Rattle.af_collect.specs.StoreView.{StoreView}
 use Rattle.af_collect.specs.contracts.holdings.Holdings.{the_view}
 use Rattle.af_collect.specs.declared.holdings.Holdings.TheInside.{Inside}
-use Rattle.af_collect.specs.declared.parts.Collector.{Collector}
+use Rattle.af_collect.specs.declared.collector.Collector.{Collector}
 use Rattle.af_collect.proofs.Bounds.{tabled-most}
 use Rattle.af_collect.proofs.Receives.{received-live, received_at}
 use Rattle.af_collect.proofs.StoreInvariant.{seen-world, shown}
@@ -24,7 +24,7 @@ use Rattle.af_collect.proofs.StoreInvariant.{seen-world, shown}
 abbrev pub Receives : World → ℕ → ℕ → List ℕ → Type 0
 Receives w s pid fds = (is_none (socket_at w s) ≡ false) × IsTrue (map.contains_key w.processes pid) × ((k : ℕ) × (fds ≡ lowest_free k (process_at w pid)))
 
-module _ (p : Collector) (h : Inside) (o : StoreView) (opened : the_view h ≡ p.places) (seen : shown p p.places ≡ o) (s max pid : ℕ) (fds : List ℕ) (asked : CanReceive o s max pid fds) where
+module _ (p : Collector) (h : Inside) (o : StoreView) (opened : the_view h ≡ p.holdings) (seen : shown p p.holdings ≡ o) (s max pid : ℕ) (fds : List ℕ) (asked : CanReceive o s max pid fds) where
   -- The world of the store.
   abbrev w : World
   w = (the_view h).world

@@ -23,7 +23,7 @@ use Rattle.af_collect.specs.Losing.{vacated}
 use Rattle.af_collect.specs.StoreView.{StoreView}
 use Rattle.af_collect.specs.contracts.holdings.Holdings.{the_view}
 use Rattle.af_collect.specs.declared.holdings.Holdings.TheInside.{Inside}
-use Rattle.af_collect.specs.declared.parts.Collector.{Collector}
+use Rattle.af_collect.specs.declared.collector.Collector.{Collector}
 use Rattle.af_collect.specs.declared.progress.Stage.{Stage}
 use Rattle.af_collect.proofs.Bounds.{can-drop-table, can-hold-table}
 use Rattle.af_collect.proofs.Exact.{world-is}
@@ -82,7 +82,7 @@ module _ (p : Collector) (h : Inside) (was : BothInvariants p h.procs h.files h.
     by None e = absurd (none_some g (sym e ∙ at))
     by (Some f) e = marked_closed pid fd f was.0.whole e t was.1 g at b
 
-  module _ (v : StoreView) (opened : the_view h ≡ p.places) (seen : shown p p.places ≡ v) (f : ℕ) (needs : Replaces v.world pid fd f) where
+  module _ (v : StoreView) (opened : the_view h ≡ p.holdings) (seen : shown p p.holdings ≡ v) (f : ℕ) (needs : Replaces v.world pid fd f) where
     asked : Replaces w pid fd f
     asked = subst (λ u. Replaces u pid fd f) (seen-world p h v opened seen) needs
 

@@ -17,16 +17,16 @@ use Rattle.af_collect.proofs.SocketChanges.{covers_same, moves_same}
 use Rattle.af_collect.specs.StoreView.{KeepsPass, KeepsPassWith, StoreView}
 use Rattle.af_collect.specs.contracts.holdings.Holdings.{the_view}
 use Rattle.af_collect.specs.declared.holdings.Holdings.TheInside.{Inside}
-use Rattle.af_collect.specs.declared.parts.Collector.{Collector}
+use Rattle.af_collect.specs.declared.collector.Collector.{Collector}
 use Rattle.af_collect.proofs.PlaceChanges.{kept_socket}
 
--- These processes, files and charges are exact, and what these parts keep of the pass is kept with
--- them.
+-- These processes, files and charges are exact, and what the collector keeps of its pass is kept
+-- with them.
 abbrev pub BothInvariants : Collector → Procs → FilesView → LedgerView → Type 0
 BothInvariants p procs files ledger = AreExact procs files ledger × PassInvariant (world_of procs files ledger) p.begun.value.world files.marks p.progress
 
--- So it is where the holdings of the parts are opened.
-pub stood : (p : Collector) (h : Inside) → the_view h ≡ p.places → AreExact h.procs h.files h.ledger → KeepsPass p → BothInvariants p h.procs h.files h.ledger
+-- So it is where the holdings of the collector are opened.
+pub stood : (p : Collector) (h : Inside) → the_view h ≡ p.holdings → AreExact h.procs h.files h.ledger → KeepsPass p → BothInvariants p h.procs h.files h.ledger
 stood p h seen exact kept = (exact, subst (KeepsPassWith p) (sym seen) kept)
 
 module _ {begun : World} {c : PassProgress} where
@@ -53,18 +53,18 @@ module _ {T E : Type 0} (r : Result T E) (p : Collector) (h : Inside) (new : Fil
       let begun = p.begun.value.world in
       stands-either (changed g s h.files) ok (exact, kept_socket s g (λ _. moves_same w s g same begun) (λ _. covers_same w s g same begun (is_marked h.files.marks) (below p.progress.visited)) was.1)
 
--- The view of a store over these holdings, if the pass is that of these parts.
+-- The view of a store over these holdings, if the pass is that of this collector.
 abbrev pub shown : Collector → HoldingsView → StoreView
 shown p t = record { world = t.world; rows = t.rows; message_room = t.message_room; pass = pass_of p.progress.stage p.begun.value.world p.progress.looked; marks = t.marks; progress = p.progress; since = t.since }
 
 -- Where the world alone is changed, a caller sees it change so.
-pub seen-changed : (p : Collector) (h : Inside) (o : StoreView) (f : World → World) → the_view h ≡ p.places → shown p p.places ≡ o → shown p (record (the_view h) { world = f (the_view h).world }) ≡ record o { world = f o.world }
+pub seen-changed : (p : Collector) (h : Inside) (o : StoreView) (f : World → World) → the_view h ≡ p.holdings → shown p p.holdings ≡ o → shown p (record (the_view h) { world = f (the_view h).world }) ≡ record o { world = f o.world }
 seen-changed p h o f opened is = ap {A = HoldingsView} {B = StoreView} (λ t. shown p (record t { world = f t.world })) opened ∙ ap {A = StoreView} {B = StoreView} (λ t. record t { world = f t.world }) is
 
 -- The same, where other files are marked then, and there is room for a message more or less.
-pub seen-moved : (p : Collector) (h : Inside) (o : StoreView) (f : World → World) (m : MarksView) (b : Bool) → the_view h ≡ p.places → shown p p.places ≡ o → shown p (record (the_view h) { world = f (the_view h).world; marks = m; message_room = b }) ≡ record o { world = f o.world; marks = m; message_room = b }
+pub seen-moved : (p : Collector) (h : Inside) (o : StoreView) (f : World → World) (m : MarksView) (b : Bool) → the_view h ≡ p.holdings → shown p p.holdings ≡ o → shown p (record (the_view h) { world = f (the_view h).world; marks = m; message_room = b }) ≡ record o { world = f o.world; marks = m; message_room = b }
 seen-moved p h o f m b opened is = ap {A = HoldingsView} {B = StoreView} (λ t. shown p (record t { world = f t.world; marks = m; message_room = b })) opened ∙ ap {A = StoreView} {B = StoreView} (λ t. record t { world = f t.world; marks = m; message_room = b }) is
 
 -- And a caller sees that world.
-pub seen-world : (p : Collector) (h : Inside) (o : StoreView) → the_view h ≡ p.places → shown p p.places ≡ o → o.world ≡ (the_view h).world
+pub seen-world : (p : Collector) (h : Inside) (o : StoreView) → the_view h ≡ p.holdings → shown p p.holdings ≡ o → o.world ≡ (the_view h).world
 seen-world p h o opened is = sym (ap (λ (t : HoldingsView). t.world) opened ∙ ap (λ (t : StoreView). t.world) is)

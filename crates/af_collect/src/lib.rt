@@ -5,11 +5,11 @@
 //! (`copy_for_fork`, `remove_process`), and `release`, `slice` and `collect`.
 #![tactic(auto)]
 
+mod collector;
 mod holdings;
 mod listings;
 mod marks;
 mod messages;
-mod parts;
 mod passes;
 mod places;
 mod progress;

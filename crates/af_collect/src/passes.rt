@@ -18,7 +18,7 @@ impl Store {
     pub fn is_passing(&self) -> bool
         ensures { result ≡ runs self.now.pass }
     {
-        self.parts.is_running()
+        self.collector.is_running()
     }
 
     /// Returns how many files the pass has visited, scanned and swept since it began. It is 0 after
@@ -26,7 +26,7 @@ impl Store {
     pub fn looked(&self) -> u64
         ensures { result ≡ self.now.progress.looked }
     {
-        self.parts.progress.looked
+        self.collector.progress.looked
     }
 
     /// Does nothing: it tells the prover what a pass that runs keeps between any two calls, of its
@@ -36,7 +36,7 @@ impl Store {
             → PassInvariant self.now.world begun self.now.marks self.now.progress }
     {
         // The invariant says it: reading a field gives it to the prover.
-        let _parts = &self.parts;
+        let _collector = &self.collector;
     }
 
     /// Begins a pass over the world: no file is marked yet, and none was looked at. Costs the same
@@ -51,7 +51,7 @@ impl Store {
         ensures unmarked { (f : ℕ) → is_marked self.new.marks f ≡ false }
         ensures looked { self.new.progress.looked ≡ 0 }
     {
-        self.parts.begin();
+        self.collector.begin();
     }
 
     /// Proceeds by at most this many units, each of which visits, scans or sweeps one file. If the
@@ -67,12 +67,12 @@ impl Store {
         ensures looked { self.new.progress.looked ≤ self.old.progress.looked + budget }
         ensures rises { self.old.progress.looked ≤ self.new.progress.looked }
     {
-        if !self.parts.units(budget) {
+        if !self.collector.units(budget) {
             return None;
         }
-        self.parts.progress.stage = Stage::Resting;
-        self.parts.places.end_pass();
-        Some(self.parts.progress.reclaimed)
+        self.collector.progress.stage = Stage::Resting;
+        self.collector.holdings.end_pass();
+        Some(self.collector.progress.reclaimed)
     }
 
     /// Runs a whole pass. Returns how many sockets were garbage.
@@ -84,11 +84,11 @@ impl Store {
         ensures since { self.new.since ≡ self.old.since }
         ensures pass { self.new.pass ≡ Idle }
     {
-        self.parts.begin();
-        while !self.parts.units(MAX_BUDGET) {}
-        self.parts.progress.stage = Stage::Resting;
-        self.parts.places.end_pass();
-        self.parts.progress.reclaimed
+        self.collector.begin();
+        while !self.collector.units(MAX_BUDGET) {}
+        self.collector.progress.stage = Stage::Resting;
+        self.collector.holdings.end_pass();
+        self.collector.progress.reclaimed
     }
 
     /// Frees the unreferenced files, one after another. Drops all references that such a file
@@ -104,9 +104,9 @@ impl Store {
             ≡ record self.old.progress { reclaimed = self.new.progress.reclaimed } }
     {
         // Most steps leave nothing unreferenced, and then nothing is called.
-        let Some(_) = self.parts.places.next_unreferenced() else {
+        let Some(_) = self.collector.holdings.next_unreferenced() else {
             return;
         };
-        self.parts.release();
+        self.collector.release();
     }
 }

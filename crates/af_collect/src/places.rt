@@ -50,9 +50,9 @@ impl Store {
         requires spared { NotBegunGarbage self.old.pass file }
         ensures { self.new ≡ record self.old { world = install self.old.world pid fd file } }
     {
-        let places = &mut self.parts.places;
-        places.files.hold(&Place::Table, &file);
-        places.procs.install(pid, fd, file);
+        let holdings = &mut self.collector.holdings;
+        holdings.files.hold(&Place::Table, &file);
+        holdings.procs.install(pid, fd, file);
     }
 
     /// Installs a live file at a descriptor for which there is room, in place of the file that it
@@ -69,10 +69,10 @@ impl Store {
           marks = self.new.marks;
         } }
     {
-        let places = &mut self.parts.places;
-        let was = places.procs.replace(pid, fd, file.duplicate());
-        drop_replaced(&self.parts.progress, &mut places.files, was);
-        places.files.hold(&Place::Table, &file);
+        let holdings = &mut self.collector.holdings;
+        let was = holdings.procs.replace(pid, fd, file.duplicate());
+        drop_replaced(&self.collector.progress, &mut holdings.files, was);
+        holdings.files.hold(&Place::Table, &file);
     }
 
     /// Installs a live file at a descriptor below the limit, in place of the file that it referred
@@ -91,11 +91,11 @@ impl Store {
         }) }
         ensures err { OnErr result (self.new ≡ record self.old { rows = self.new.rows }) }
     {
-        let places = &mut self.parts.places;
-        let process = places.procs.find_with_room(pid)?;
+        let holdings = &mut self.collector.holdings;
+        let process = holdings.procs.find_with_room(pid)?;
         let was = process.replace(fd, file.duplicate());
-        drop_replaced(&self.parts.progress, &mut places.files, was);
-        places.files.hold(&Place::Table, &file);
+        drop_replaced(&self.collector.progress, &mut holdings.files, was);
+        holdings.files.hold(&Place::Table, &file);
         Ok(())
     }
 
@@ -109,11 +109,11 @@ impl Store {
         } }
         ensures unchanged { result ≡ false → self.new ≡ self.old }
     {
-        let places = &mut self.parts.places;
-        let Some(file) = places.procs.take_out(pid, fd) else {
+        let holdings = &mut self.collector.holdings;
+        let Some(file) = holdings.procs.take_out(pid, fd) else {
             return false;
         };
-        drop_descriptor(&self.parts.progress, &mut places.files, &file);
+        drop_descriptor(&self.collector.progress, &mut holdings.files, &file);
         true
     }
 
@@ -153,11 +153,11 @@ impl Store {
         } }
         ensures unchanged { result ≡ false → self.new ≡ self.old }
     {
-        let places = &mut self.parts.places;
-        let Some(file) = places.procs.take_out(pid, fd) else {
+        let holdings = &mut self.collector.holdings;
+        let Some(file) = holdings.procs.take_out(pid, fd) else {
             return false;
         };
-        drop_and_free(&self.parts.progress, &mut places.files, &file);
+        drop_and_free(&self.collector.progress, &mut holdings.files, &file);
         true
     }
 
@@ -189,14 +189,14 @@ impl Store {
           message_room = self.new.message_room;
         } }
     {
-        let places = &mut self.parts.places;
+        let holdings = &mut self.collector.holdings;
         charge_message(
-            &mut places.files,
-            &mut places.ledger,
+            &mut holdings.files,
+            &mut holdings.ledger,
             message.user(),
             message.attached(),
         );
-        places.files.push(socket, message);
+        holdings.files.push(socket, message);
     }
 
     /// Takes from a queue, into an empty result, what a receive of at most `max` bytes gives
@@ -224,19 +224,19 @@ impl Store {
         }) }
         ensures err { OnErr result (self.new ≡ self.old) }
     {
-        let places = &mut self.parts.places;
-        places.files.take(socket, max, taken)?;
+        let holdings = &mut self.collector.holdings;
+        holdings.files.take(socket, max, taken)?;
         let attached = taken.attached();
         receive_all(
-            &mut places.procs,
-            &mut places.files,
-            &mut places.ledger,
+            &mut holdings.procs,
+            &mut holdings.files,
+            &mut holdings.ledger,
             pid,
             fds,
             taken.user(),
             attached,
         );
-        shade_taken(&self.parts.progress, &mut places.files, attached);
+        shade_taken(&self.collector.progress, &mut holdings.files, attached);
         Ok(())
     }
 
@@ -259,12 +259,12 @@ impl Store {
         }) }
         ensures err { OnErr result (self.new ≡ self.old) }
     {
-        let places = &mut self.parts.places;
-        let seen = places.files.peek(socket, max)?;
+        let holdings = &mut self.collector.holdings;
+        let seen = holdings.files.peek(socket, max)?;
         // Nothing leaves a place, so nothing is to be marked.
         table_in_all(
-            &mut places.procs,
-            &mut places.files,
+            &mut holdings.procs,
+            &mut holdings.files,
             pid,
             fds,
             seen.attached(),

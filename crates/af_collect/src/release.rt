@@ -97,7 +97,7 @@ impl Holdings {
 
     /// Frees an unreferenced file that holds nothing, and hangs up its peer. Returns whether it was
     /// a socket that the pass had still to mark. Takes no memory.
-    pub(crate) fn take_away(&mut self, file: &FileRef) -> bool
+    pub(crate) fn free_bare(&mut self, file: &FileRef) -> bool
         requires live { IsLive self.old.world file.now }
         requires unheld { refs self.old.world file.now ≡ 0 }
         requires bare { held_by self.old.world file.now ≡ [] }

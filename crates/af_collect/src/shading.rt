@@ -36,52 +36,54 @@ fn shade_all(files: &mut Files, taken: &[FileRef])
 
 /// Marks all that the file holds, given its contents by one look.
 #[inline(always)]
-pub fn shade_contents(places: &mut Holdings, file: &FileRef, contents: &Contents)
-    requires { IsContents contents.now (held_by places.old.world file.now) }
-    ensures { Shades (held_by places.old.world file.now) places.old places.new }
+pub fn shade_contents(holdings: &mut Holdings, file: &FileRef, contents: &Contents)
+    requires { IsContents contents.now (held_by holdings.old.world file.now) }
+    ensures { Shades (held_by holdings.old.world file.now) holdings.old holdings.new }
 {
     match contents {
         Contents::Nothing => {}
-        Contents::One(held) => places.shade(held),
-        Contents::Several => shade_held(places, file),
+        Contents::One(held) => holdings.shade(held),
+        Contents::Several => shade_held(holdings, file),
     }
 }
 
 /// Marks all that the file holds.
 #[tactic(auto, using(crate::proofs::LostFiles::held_parts, crate::proofs::ShadedMarks::shaded_append))]
 #[inline(never)]
-fn shade_held(places: &mut Holdings, file: &FileRef)
-    ensures { Shades (held_by places.old.world file.now) places.old places.new }
+fn shade_held(holdings: &mut Holdings, file: &FileRef)
+    ensures { Shades (held_by holdings.old.world file.now) holdings.old holdings.new }
 {
-    shade_queue(places, file);
-    shade_backlog(places, file);
+    shade_queue(holdings, file);
+    shade_backlog(holdings, file);
 }
 
 /// Marks the files attached to the messages of the file's queue.
 #[tactic(auto, using(crate::proofs::FileContents::carried_one))]
 #[inline(always)]
-fn shade_queue(places: &mut Holdings, file: &FileRef)
-    ensures { Shades (attached_in (queue_at places.old.world file.now)) places.old places.new }
+fn shade_queue(holdings: &mut Holdings, file: &FileRef)
+    ensures { Shades
+        (attached_in (queue_at holdings.old.world file.now)) holdings.old holdings.new }
 {
     // Most queues have one message at most.
-    if messages(places, file) <= 1 {
-        shade_message(places, file);
+    if messages(holdings, file) <= 1 {
+        shade_message(holdings, file);
     } else {
-        shade_attached(places, file);
+        shade_attached(holdings, file);
     }
 }
 
 /// Marks the files attached to the messages of a longer queue, 16 at a time: the queue cannot stay
 /// lent while marks change.
 #[inline(never)]
-fn shade_attached(places: &mut Holdings, file: &FileRef)
-    ensures { Shades (attached_in (queue_at places.old.world file.now)) places.old places.new }
+fn shade_attached(holdings: &mut Holdings, file: &FileRef)
+    ensures { Shades
+        (attached_in (queue_at holdings.old.world file.now)) holdings.old holdings.new }
 {
     let mut from = 0;
     loop {
-        let held = attached_from(places, file, from);
+        let held = attached_from(holdings, file, from);
         let held = held.as_slice();
-        shade_some(places, held);
+        shade_some(holdings, held);
         if held.len() < BATCH {
             return;
         }
@@ -91,67 +93,68 @@ fn shade_attached(places: &mut Holdings, file: &FileRef)
 
 /// Marks these files.
 #[inline(always)]
-fn shade_some(places: &mut Holdings, held: &[FileRef])
-    ensures { places.new ≡ record places.old { marks = shaded_all held.now places.old.marks } }
+fn shade_some(holdings: &mut Holdings, held: &[FileRef])
+    ensures { holdings.new
+        ≡ record holdings.old { marks = shaded_all held.now holdings.old.marks } }
 {
     for file in held {
-        places.shade(file);
+        holdings.shade(file);
     }
 }
 
 /// Marks the embryos of the file's backlog.
 #[tactic(auto, using(crate::proofs::FileContents::rest_next, crate::proofs::ShadedMarks::shaded_append))]
 #[inline(always)]
-fn shade_backlog(places: &mut Holdings, file: &FileRef)
-    ensures { Shades (backlog_at places.old.world file.now) places.old places.new }
+fn shade_backlog(holdings: &mut Holdings, file: &FileRef)
+    ensures { Shades (backlog_at holdings.old.world file.now) holdings.old holdings.new }
 {
-    for at in 0..embryos(places, file) {
-        shade_embryo(places, file, at);
+    for at in 0..embryos(holdings, file) {
+        shade_embryo(holdings, file, at);
     }
 }
 
 /// Marks the files attached to the first message of the file's queue.
 #[inline(always)]
-fn shade_message(places: &mut Holdings, file: &FileRef)
-    ensures { Shades (first_attached places.old.world file.now) places.old places.new }
+fn shade_message(holdings: &mut Holdings, file: &FileRef)
+    ensures { Shades (first_attached holdings.old.world file.now) holdings.old holdings.new }
 {
-    for index in 0..first_attached(places, file).len() {
-        let held = first_attached(places, file)[index].duplicate();
-        places.shade(&held);
+    for index in 0..first_attached(holdings, file).len() {
+        let held = first_attached(holdings, file)[index].duplicate();
+        holdings.shade(&held);
     }
 }
 
 /// Marks the files that the file would lose first: those of its first message, or else its first
 /// embryo.
 #[tactic(auto, using(crate::proofs::FileContents::carried_first))]
-pub fn shade_first(places: &mut Holdings, file: &FileRef)
-    ensures { Shades (first_held places.old.world file.now) places.old places.new }
+pub fn shade_first(holdings: &mut Holdings, file: &FileRef)
+    ensures { Shades (first_held holdings.old.world file.now) holdings.old holdings.new }
 {
-    if messages(places, file) > 0 {
-        shade_message(places, file);
+    if messages(holdings, file) > 0 {
+        shade_message(holdings, file);
     } else {
-        shade_embryo(places, file, 0);
+        shade_embryo(holdings, file, 0);
     }
 }
 
 /// Marks the embryo at this position of the file's backlog, if there is one.
 #[tactic(auto, using(crate::proofs::FileContents::first_left, crate::proofs::FileContents::none_left))]
 #[inline(always)]
-pub fn shade_embryo(places: &mut Holdings, file: &FileRef, at: usize)
+pub fn shade_embryo(holdings: &mut Holdings, file: &FileRef, at: usize)
     ensures { Shades
-        (take 1 (drop at (backlog_at places.old.world file.now))) places.old places.new }
+        (take 1 (drop at (backlog_at holdings.old.world file.now))) holdings.old holdings.new }
 {
-    if let Some(embryo) = embryo_at(places, file, at) {
-        places.shade(&embryo);
+    if let Some(embryo) = embryo_at(holdings, file, at) {
+        holdings.shade(&embryo);
     }
 }
 
 /// Returns how many messages the file's queue has.
 #[inline(always)]
-fn messages(places: &Holdings, file: &FileRef) -> usize
-    ensures { result ≡ length (queue_at places.now.world file.now) }
+fn messages(holdings: &Holdings, file: &FileRef) -> usize
+    ensures { result ≡ length (queue_at holdings.now.world file.now) }
 {
-    match places.socket(file) {
+    match holdings.socket(file) {
         Some(socket) => socket.queue().len(),
         None => 0,
     }
@@ -159,10 +162,10 @@ fn messages(places: &Holdings, file: &FileRef) -> usize
 
 /// Returns how many embryos wait at the file.
 #[inline(always)]
-fn embryos(places: &Holdings, file: &FileRef) -> usize
-    ensures { result ≡ length (backlog_at places.now.world file.now) }
+fn embryos(holdings: &Holdings, file: &FileRef) -> usize
+    ensures { result ≡ length (backlog_at holdings.now.world file.now) }
 {
-    let Some(socket) = places.socket(file) else {
+    let Some(socket) = holdings.socket(file) else {
         return 0;
     };
     match socket.backlog() {
@@ -173,13 +176,13 @@ fn embryos(places: &Holdings, file: &FileRef) -> usize
 
 /// Returns the files attached to the messages of the file's queue, from this one on: 16 at most.
 #[inline(always)]
-fn attached_from(places: &Holdings, file: &FileRef, from: usize) -> ArrayVec<FileRef, BATCH>
+fn attached_from(holdings: &Holdings, file: &FileRef, from: usize) -> ArrayVec<FileRef, BATCH>
     ensures files { result.items
-        ≡ take BATCH (drop from (attached_in (queue_at places.now.world file.now))) }
-    ensures few { length (attached_in (queue_at places.now.world file.now))
+        ≡ take BATCH (drop from (attached_in (queue_at holdings.now.world file.now))) }
+    ensures few { length (attached_in (queue_at holdings.now.world file.now))
         ≤ MAX_MESSAGES * SCM_MAX_FD }
 {
-    match places.socket(file) {
+    match holdings.socket(file) {
         Some(socket) => socket.queue().attached_from(from),
         None => ArrayVec::new(),
     }
@@ -187,10 +190,10 @@ fn attached_from(places: &Holdings, file: &FileRef, from: usize) -> ArrayVec<Fil
 
 /// Returns the files attached to the first message of the file's queue.
 #[inline(always)]
-fn first_attached<'a>(places: &'a Holdings, file: &FileRef) -> &'a [FileRef]
-    ensures { result.now ≡ first_attached places.now.world file.now }
+fn first_attached<'a>(holdings: &'a Holdings, file: &FileRef) -> &'a [FileRef]
+    ensures { result.now ≡ first_attached holdings.now.world file.now }
 {
-    let Some(socket) = places.socket(file) else {
+    let Some(socket) = holdings.socket(file) else {
         return &[];
     };
     match socket.queue().first() {
@@ -201,9 +204,9 @@ fn first_attached<'a>(places: &'a Holdings, file: &FileRef) -> &'a [FileRef]
 
 /// Returns the embryo at this position of the file's backlog, if there is one.
 #[inline(always)]
-fn embryo_at(places: &Holdings, file: &FileRef, at: usize) -> Option<FileRef>
-    ensures { result ≡ slice_get (backlog_at places.now.world file.now) at }
+fn embryo_at(holdings: &Holdings, file: &FileRef, at: usize) -> Option<FileRef>
+    ensures { result ≡ slice_get (backlog_at holdings.now.world file.now) at }
 {
-    let embryo = places.socket(file)?.backlog()?.files().get(at)?;
+    let embryo = holdings.socket(file)?.backlog()?.files().get(at)?;
     Some(embryo.duplicate())
 }

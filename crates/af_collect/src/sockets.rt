@@ -38,9 +38,9 @@ impl Store {
         }) }
         ensures err { OnErr result (self.new ≡ self.old) }
     {
-        let places = &mut self.parts.places;
-        let file = places.files.make_sock(kind, &Place::Table)?;
-        places.procs.install(pid, fd, file);
+        let holdings = &mut self.collector.holdings;
+        let file = holdings.files.make_sock(kind, &Place::Table)?;
+        holdings.procs.install(pid, fd, file);
         Ok(())
     }
 
@@ -61,9 +61,9 @@ impl Store {
         }) }
         ensures err { OnErr result (self.new ≡ record self.old { rows = self.new.rows }) }
     {
-        let places = &mut self.parts.places;
-        let process = places.procs.find_with_room(pid)?;
-        let file = places.files.make_sock(kind, &Place::Table)?;
+        let holdings = &mut self.collector.holdings;
+        let process = holdings.procs.find_with_room(pid)?;
+        let file = holdings.files.make_sock(kind, &Place::Table)?;
         process.install(fd, file);
         Ok(())
     }
@@ -79,8 +79,8 @@ impl Store {
         }) }
         ensures err { OnErr result (self.new ≡ self.old) }
     {
-        let places = &mut self.parts.places;
-        places.files.bind(socket, name)
+        let holdings = &mut self.collector.holdings;
+        holdings.files.bind(socket, name)
     }
 
     /// Makes a socket that has a name, and was never connected, wait for connections (listen(2)).
@@ -95,8 +95,8 @@ impl Store {
             ≡ record self.old { world = with_socket self.old.world socket.now (listening most) }) }
         ensures err { OnErr result (self.new ≡ self.old) }
     {
-        let places = &mut self.parts.places;
-        places.files.listen(socket, most)
+        let holdings = &mut self.collector.holdings;
+        holdings.files.listen(socket, most)
     }
 
     /// Makes an embryo: a socket that is connected to this client, which was never connected, and
@@ -120,9 +120,9 @@ impl Store {
         }) }
         ensures err { OnErr result (self.new ≡ self.old) }
     {
-        let places = &mut self.parts.places;
-        let embryo = places.files.make_embryo(kind, client, &Place::Backlog)?;
-        places.files.enqueue(listener, embryo);
+        let holdings = &mut self.collector.holdings;
+        let embryo = holdings.files.make_embryo(kind, client, &Place::Backlog)?;
+        holdings.files.enqueue(listener, embryo);
         Ok(())
     }
 
@@ -137,9 +137,9 @@ impl Store {
         ensures { self.new
             ≡ record self.old { world = with_socket self.old.world listener.now (queued embryo) } }
     {
-        let places = &mut self.parts.places;
-        places.files.hold(&Place::Backlog, &embryo);
-        places.files.enqueue(listener, embryo);
+        let holdings = &mut self.collector.holdings;
+        holdings.files.hold(&Place::Backlog, &embryo);
+        holdings.files.enqueue(listener, embryo);
     }
 
     /// Moves the first embryo of a listener out of its backlog and into a table, at a free
@@ -158,10 +158,10 @@ impl Store {
               marks = self.new.marks;
             } }
     {
-        self.parts.shade_embryo(listener);
-        let places = &mut self.parts.places;
-        let embryo = places.files.dequeue(listener).unwrap();
-        places.files.move_to_table(&Place::Backlog, &embryo);
-        places.procs.install(pid, fd, embryo);
+        self.collector.shade_embryo(listener);
+        let holdings = &mut self.collector.holdings;
+        let embryo = holdings.files.dequeue(listener).unwrap();
+        holdings.files.move_to_table(&Place::Backlog, &embryo);
+        holdings.procs.install(pid, fd, embryo);
     }
 }

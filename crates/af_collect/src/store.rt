@@ -13,8 +13,8 @@ ghost use Rattle.af_base.specs.Told.{AreChanged, TellsReleased};
 ghost use Rattle.af_collect.specs.Limits.{IsBelowLimit};
 ghost use Rattle.af_collect.specs.StoreView.{room_at};
 
+use crate::collector::Collector;
 use crate::holdings::Holdings;
-use crate::parts::Collector;
 use crate::progress::{PassProgress, Stage};
 use crate::tables::{ref_table, unref_table};
 use af_base::events::SockType;
@@ -28,13 +28,13 @@ use std::snapshot::Snapshot;
 /// The processes with their tables, the files, how many places hold each file, and the pass of the
 /// collector, if one runs.
 pub struct Store {
-    pub(crate) parts: Collector,
+    pub(crate) collector: Collector,
 }
 
 /// It is written out, and not derived: so an owner's proof has one call where it drops a store.
 impl Drop for Store {
     fn drop(self) {
-        let Store { parts: _ } = self;
+        let Store { collector: _ } = self;
     }
 }
 
@@ -49,16 +49,17 @@ impl Model for Store {
     ghost coded = { Prim.hlevel (codes, map.code) };
 
     ghost view = { λ s. record {
-      world = s.parts.places.world;
-      rows = s.parts.places.rows;
-      message_room = s.parts.places.message_room;
-      pass = pass_of s.parts.progress.stage s.parts.begun.value.world s.parts.progress.looked;
-      marks = s.parts.places.marks;
-      progress = s.parts.progress;
-      since = s.parts.places.since;
+      world = s.collector.holdings.world;
+      rows = s.collector.holdings.rows;
+      message_room = s.collector.holdings.message_room;
+      pass = pass_of s.collector.progress.stage s.collector.begun.value.world
+          s.collector.progress.looked;
+      marks = s.collector.holdings.marks;
+      progress = s.collector.progress;
+      since = s.collector.holdings.since;
     } };
 
-    ghost invariant = { λ s. KeepsPass s.parts };
+    ghost invariant = { λ s. KeepsPass s.collector };
 }
 
 impl Store {
@@ -68,11 +69,11 @@ impl Store {
         ensures since { result.since ≡ untold }
         ensures pass { result.pass ≡ Idle }
     {
-        let places = Holdings::new(alloc);
-        let begun = Snapshot::of(&places);
+        let holdings = Holdings::new(alloc);
+        let begun = Snapshot::of(&holdings);
         Store {
-            parts: Collector {
-                places,
+            collector: Collector {
+                holdings,
                 begun,
                 progress: PassProgress {
                     stage: Stage::Resting,
@@ -98,10 +99,10 @@ impl Store {
         ensures pid { IfOk result (λ pid. pid ≡ self.old.world.next_pid) }
         ensures err { OnErr result (self.new ≡ self.old) }
     {
-        let places = &mut self.parts.places;
-        places.procs.room_to_spawn()?;
-        places.ledger.add_user(uid)?;
-        Ok(places.procs.spawn(uid, limit, privileged))
+        let holdings = &mut self.collector.holdings;
+        holdings.procs.room_to_spawn()?;
+        holdings.ledger.add_user(uid)?;
+        Ok(holdings.procs.spawn(uid, limit, privileged))
     }
 
     /// Sets a process's limit on descriptors (setrlimit(2), RLIMIT_NOFILE); none is closed. Takes
@@ -110,8 +111,8 @@ impl Store {
         requires { limit ≤ MAX_NOFILE }
         ensures { self.new ≡ record self.old { world = set_limit self.old.world pid limit } }
     {
-        let places = &mut self.parts.places;
-        places.procs.set_limit(pid, limit);
+        let holdings = &mut self.collector.holdings;
+        holdings.procs.set_limit(pid, limit);
     }
 
     /// Reserves room to install this many descriptors of the process. Needs no memory if its table
@@ -128,8 +129,8 @@ impl Store {
         ensures none { count ≡ 0 → IsOk result }
         ensures ready { (process_at self.old.world pid).limit ≤ room_at self.old pid → IsOk result }
     {
-        let places = &mut self.parts.places;
-        places.procs.room_for(pid, count)
+        let holdings = &mut self.collector.holdings;
+        holdings.procs.room_for(pid, count)
     }
 
     /// Makes room for one message more, so that the next `put_msg` cannot fail. On an error nothing
@@ -139,8 +140,8 @@ impl Store {
         ensures succeeds { self.old.message_room ≡ true → IsOk result }
         ensures rest { self.new ≡ record self.old { message_room = self.new.message_room } }
     {
-        let places = &mut self.parts.places;
-        places.files.room_for_message()
+        let holdings = &mut self.collector.holdings;
+        holdings.files.room_for_message()
     }
 
     /// Begins to list freed files, and empties both lists. On an error nothing has changed.
@@ -155,8 +156,8 @@ impl Store {
         }) }
         ensures err { OnErr result (self.new ≡ self.old) }
     {
-        let places = &mut self.parts.places;
-        places.files.tell_released()
+        let holdings = &mut self.collector.holdings;
+        holdings.files.tell_released()
     }
 
     /// Begins to list sockets whose readiness may have changed, and empties both lists. On an error
@@ -172,8 +173,8 @@ impl Store {
         }) }
         ensures err { OnErr result (self.new ≡ self.old) }
     {
-        let places = &mut self.parts.places;
-        places.files.tell_changed()
+        let holdings = &mut self.collector.holdings;
+        holdings.files.tell_changed()
     }
 
     /// Returns the numbers of the files that were freed since the lists were last emptied, each
@@ -181,7 +182,7 @@ impl Store {
     pub fn released_files(&self) -> &[Ino]
         ensures { TellsReleased self.now.world self.now.since result.now }
     {
-        self.parts.places.files().released_files()
+        self.collector.holdings.files().released_files()
     }
 
     /// Returns the sockets whose readiness may have changed since the lists were last emptied, each
@@ -190,7 +191,7 @@ impl Store {
         ensures { self.now.since.changed ≡ true
             → AreChanged self.now.world.files self.now.since result.now }
     {
-        self.parts.places.files().changed_sockets()
+        self.collector.holdings.files().changed_sockets()
     }
 
     /// Empties both lists. It takes no memory.
@@ -202,8 +203,8 @@ impl Store {
           };
         } }
     {
-        let places = &mut self.parts.places;
-        places.files.clear_told();
+        let holdings = &mut self.collector.holdings;
+        holdings.files.clear_told();
     }
 
     /// Makes a plain file, at a free descriptor for which there is room (open(2)). On an error
@@ -220,9 +221,9 @@ impl Store {
         }) }
         ensures err { OnErr result (self.new ≡ self.old) }
     {
-        let places = &mut self.parts.places;
-        let file = places.files.make_plain(&Place::Table)?;
-        places.procs.install(pid, fd, file);
+        let holdings = &mut self.collector.holdings;
+        let file = holdings.files.make_plain(&Place::Table)?;
+        holdings.procs.install(pid, fd, file);
         Ok(())
     }
 
@@ -241,9 +242,9 @@ impl Store {
         }) }
         ensures err { OnErr result (self.new ≡ record self.old { rows = self.new.rows }) }
     {
-        let places = &mut self.parts.places;
-        let process = places.procs.find_with_room(pid)?;
-        let file = places.files.make_plain(&Place::Table)?;
+        let holdings = &mut self.collector.holdings;
+        let process = holdings.procs.find_with_room(pid)?;
+        let file = holdings.files.make_plain(&Place::Table)?;
         process.install(fd, file);
         Ok(())
     }
@@ -269,10 +270,10 @@ impl Store {
         }) }
         ensures err { OnErr result (self.new ≡ self.old) }
     {
-        let places = &mut self.parts.places;
-        let (first, second) = places.files.make_two(kind, &Place::Table)?;
-        places.procs.install(pid, lower, first);
-        places.procs.install(pid, higher, second);
+        let holdings = &mut self.collector.holdings;
+        let (first, second) = holdings.files.make_two(kind, &Place::Table)?;
+        holdings.procs.install(pid, lower, first);
+        holdings.procs.install(pid, higher, second);
         Ok(())
     }
 
@@ -299,9 +300,9 @@ impl Store {
         }) }
         ensures err { OnErr result (self.new ≡ record self.old { rows = self.new.rows }) }
     {
-        let places = &mut self.parts.places;
-        let process = places.procs.find_with_room(pid)?;
-        let (first, second) = places.files.make_two(kind, &Place::Table)?;
+        let holdings = &mut self.collector.holdings;
+        let process = holdings.procs.find_with_room(pid)?;
+        let (first, second) = holdings.files.make_two(kind, &Place::Table)?;
         process.install(lower, first);
         process.install(higher, second);
         Ok(())
@@ -321,10 +322,10 @@ impl Store {
         ensures pid { IfOk result (λ child. child ≡ self.old.world.next_pid) }
         ensures err { OnErr result (self.new ≡ self.old) }
     {
-        let places = &mut self.parts.places;
-        let child = places.procs.copy_for_fork(pid)?;
-        let process = places.procs.find(child).unwrap();
-        ref_table(&mut places.files, process);
+        let holdings = &mut self.collector.holdings;
+        let child = holdings.procs.copy_for_fork(pid)?;
+        let process = holdings.procs.find(child).unwrap();
+        ref_table(&mut holdings.files, process);
         Ok(child)
     }
 
@@ -335,13 +336,13 @@ impl Store {
         ensures since { self.new.since ≡ self.old.since }
         ensures progress { self.new.progress ≡ self.old.progress }
     {
-        self.parts.shade_table(pid);
-        let places = &mut self.parts.places;
-        let Some(process) = places.procs.find(pid) else {
+        self.collector.shade_table(pid);
+        let holdings = &mut self.collector.holdings;
+        let Some(process) = holdings.procs.find(pid) else {
             return;
         };
         // The table is counted out before it is removed, since a removal moves it.
-        unref_table(&mut places.files, process);
-        places.procs.remove(pid);
+        unref_table(&mut holdings.files, process);
+        holdings.procs.remove(pid);
     }
 }

@@ -10,7 +10,7 @@ ghost use Rattle.af_collect.specs.Purged.{ArePurged};
 ghost use Rattle.af_collect.specs.Collecting.{NoneLeft, NoneLive};
 ghost use Rattle.af_collect.specs.StoreView.{KeepsPass};
 
-use crate::parts::Collector;
+use crate::collector::Collector;
 use crate::progress::{PassProgress, Stage};
 use af_base::ids::{FileRef, Ino};
 use std::snapshot::Snapshot;
@@ -20,17 +20,17 @@ impl Collector {
     /// files.
     pub fn begin(&mut self)
         requires kept { KeepsPass self.old }
-        requires sound { IsSound self.old.places.world }
+        requires sound { IsSound self.old.holdings.world }
         ensures kept { KeepsPass self.new }
-        ensures places { self.new.places
-            ≡ record self.old.places { marks = self.new.places.marks } }
-        ensures begun { self.new.begun.value ≡ self.old.places }
+        ensures holdings { self.new.holdings
+            ≡ record self.old.holdings { marks = self.new.holdings.marks } }
+        ensures begun { self.new.begun.value ≡ self.old.holdings }
         ensures stage { self.new.progress.stage ≡ stage.Marking }
         ensures looked { self.new.progress.looked ≡ 0 }
-        ensures unmarked { (f : ℕ) → is_marked self.new.places.marks f ≡ false }
+        ensures unmarked { (f : ℕ) → is_marked self.new.holdings.marks f ≡ false }
     {
-        self.begun = Snapshot::of(&self.places);
-        self.places.start_epoch();
+        self.begun = Snapshot::of(&self.holdings);
+        self.holdings.start_epoch();
         self.order_hint = 0;
         self.progress = PassProgress {
             stage: Stage::Marking,
@@ -47,25 +47,25 @@ impl Collector {
     pub fn units(&mut self, budget: u32) -> bool
         requires kept { KeepsPass self.old }
         requires running { is_running self.old.progress.stage ≡ true }
-        requires sound { IsSound self.old.places.world }
+        requires sound { IsSound self.old.holdings.world }
         ensures kept { KeepsPass self.new }
         ensures running { is_running self.new.progress.stage ≡ true }
-        ensures sound { IsSound self.new.places.world }
-        ensures rows { self.new.places.rows ≡ self.old.places.rows }
-        ensures since { self.new.places.since ≡ self.old.places.since }
+        ensures sound { IsSound self.new.holdings.world }
+        ensures rows { self.new.holdings.rows ≡ self.old.holdings.rows }
+        ensures since { self.new.holdings.since ≡ self.old.holdings.since }
         ensures begun { self.new.begun ≡ self.old.begun }
-        ensures purged { ArePurged self.old.begun.value.world self.old.places.world
-            self.new.places.world budget }
+        ensures purged { ArePurged self.old.begun.value.world self.old.holdings.world
+            self.new.holdings.world budget }
         ensures looked { self.new.progress.looked ≤ self.old.progress.looked + budget }
         ensures rises { self.old.progress.looked ≤ self.new.progress.looked }
         ensures working { result ≡ false
             → self.new.progress.looked ≡ self.old.progress.looked + budget }
-        ensures gone { result ≡ true → NoneLeft self.old.begun.value.world self.new.places.world }
+        ensures gone { result ≡ true → NoneLeft self.old.begun.value.world self.new.holdings.world }
         ensures counted { result ≡ true
             → IsGarbageCount self.old.begun.value.world self.new.progress.reclaimed }
     {
         // If nothing is in flight and no embryo waits, a table holds each file: nothing is garbage.
-        if self.places.is_calm() {
+        if self.holdings.is_calm() {
             return true;
         }
         let mut left = budget;
@@ -85,46 +85,46 @@ impl Collector {
     fn unit(&mut self, left: u32) -> u32
         requires kept { KeepsPass self.old }
         requires running { is_running self.old.progress.stage ≡ true }
-        requires sound { IsSound self.old.places.world }
+        requires sound { IsSound self.old.holdings.world }
         requires some { 0 < left }
         ensures kept { KeepsPass self.new }
         ensures running { is_running self.new.progress.stage ≡ true }
-        ensures sound { IsSound self.new.places.world }
-        ensures rows { self.new.places.rows ≡ self.old.places.rows }
-        ensures since { self.new.places.since ≡ self.old.places.since }
+        ensures sound { IsSound self.new.holdings.world }
+        ensures rows { self.new.holdings.rows ≡ self.old.holdings.rows }
+        ensures since { self.new.holdings.since ≡ self.old.holdings.since }
         ensures begun { self.new.begun ≡ self.old.begun }
         ensures few { result ≤ left }
-        ensures purged { ArePurged self.old.begun.value.world self.old.places.world
-            self.new.places.world result }
+        ensures purged { ArePurged self.old.begun.value.world self.old.holdings.world
+            self.new.holdings.world result }
         ensures looked { self.new.progress.looked ≡ self.old.progress.looked + result }
-        ensures gone { result ≡ 0 → NoneLeft self.old.begun.value.world self.new.places.world }
+        ensures gone { result ≡ 0 → NoneLeft self.old.begun.value.world self.new.holdings.world }
         ensures counted { result ≡ 0
             → IsGarbageCount self.old.begun.value.world self.new.progress.reclaimed }
     {
         // If each live file of the begin is marked, none of its garbage is live.
-        if self.places.files().are_marked() {
+        if self.holdings.files().are_marked() {
             return 0;
         }
         if self.is_marking() {
-            let units = self.mark_on(left);
+            let units = self.mark_unit(left);
             if units > 0 {
                 return units;
             }
         }
-        self.sweep_on()
+        self.sweep_unit()
     }
 
     /// Does one unit of marking, or two. Returns how many, 0 where nothing is left to visit or
     /// scan: then sweeping begins.
     #[inline(always)]
-    fn mark_on(&mut self, left: u32) -> u32
+    fn mark_unit(&mut self, left: u32) -> u32
         requires kept { KeepsPass self.old }
         requires marking { self.old.progress.stage ≡ stage.Marking }
-        requires sound { IsSound self.old.places.world }
+        requires sound { IsSound self.old.holdings.world }
         requires some { 0 < left }
         ensures kept { KeepsPass self.new }
-        ensures places { self.new.places
-            ≡ record self.old.places { marks = self.new.places.marks } }
+        ensures holdings { self.new.holdings
+            ≡ record self.old.holdings { marks = self.new.holdings.marks } }
         ensures begun { self.new.begun ≡ self.old.begun }
         ensures few { result ≤ left }
         ensures looked { self.new.progress.looked ≡ self.old.progress.looked + result }
@@ -139,27 +139,27 @@ impl Collector {
             return 1;
         }
         self.order_hint = 0;
-        self.progress.visited = self.places.files().bound().0;
+        self.progress.visited = self.holdings.files().bound().0;
         self.progress.stage = Stage::Sweeping;
         0
     }
 
     /// Does one unit of sweeping. Returns how many it did, 0 where all is swept.
-    fn sweep_on(&mut self) -> u32
+    fn sweep_unit(&mut self) -> u32
         requires kept { KeepsPass self.old }
         requires sweeping { self.old.progress.stage ≡ stage.Sweeping }
-        requires sound { IsSound self.old.places.world }
+        requires sound { IsSound self.old.holdings.world }
         ensures kept { KeepsPass self.new }
-        ensures sound { IsSound self.new.places.world }
-        ensures rows { self.new.places.rows ≡ self.old.places.rows }
-        ensures since { self.new.places.since ≡ self.old.places.since }
+        ensures sound { IsSound self.new.holdings.world }
+        ensures rows { self.new.holdings.rows ≡ self.old.holdings.rows }
+        ensures since { self.new.holdings.since ≡ self.old.holdings.since }
         ensures begun { self.new.begun ≡ self.old.begun }
         ensures stage { self.new.progress.stage ≡ stage.Sweeping }
         ensures few { result ≤ 1 }
-        ensures purged { ArePurged self.old.begun.value.world self.old.places.world
-            self.new.places.world result }
+        ensures purged { ArePurged self.old.begun.value.world self.old.holdings.world
+            self.new.holdings.world result }
         ensures looked { self.new.progress.looked ≡ self.old.progress.looked + result }
-        ensures gone { result ≡ 0 → NoneLeft self.old.begun.value.world self.new.places.world }
+        ensures gone { result ≡ 0 → NoneLeft self.old.begun.value.world self.new.holdings.world }
         ensures counted { result ≡ 0
             → IsGarbageCount self.old.begun.value.world self.new.progress.reclaimed }
     {
@@ -175,18 +175,18 @@ impl Collector {
     /// the position behind it in the order.
     #[inline(always)]
     fn next_from(&self, from: u64) -> Option<(FileRef, usize)>
-        ensures live { IfSome result (λ f. IsLive self.now.places.world f.0) }
-        ensures within { IfSome result (λ f. (from ≤ f.0) × (f.0 < self.now.places.marks.bound)) }
-        ensures least { IfSome result (λ f. NoneLive self.now.places.world from f.0) }
+        ensures live { IfSome result (λ f. IsLive self.now.holdings.world f.0) }
+        ensures within { IfSome result (λ f. (from ≤ f.0) × (f.0 < self.now.holdings.marks.bound)) }
+        ensures least { IfSome result (λ f. NoneLive self.now.holdings.world from f.0) }
         ensures none { IfNone result
-            (NoneLive self.now.places.world from self.now.places.marks.bound) }
+            (NoneLive self.now.holdings.world from self.now.holdings.marks.bound) }
     {
-        let bound = self.places.files().bound();
+        let bound = self.holdings.files().bound();
         if from >= bound.0 {
             return None;
         }
         let before = Ino(from.saturating_sub(1));
-        let (file, at) = self.places.files().next_after(before, self.order_hint)?;
+        let (file, at) = self.holdings.files().next_after(before, self.order_hint)?;
         if file.ino() >= bound {
             return None;
         }
@@ -200,13 +200,13 @@ impl Collector {
         requires kept { KeepsPass self.old }
         requires marking { self.old.progress.stage ≡ stage.Marking }
         requires some { 0 < left }
-        requires live { IsLive self.old.places.world file.now }
+        requires live { IsLive self.old.holdings.world file.now }
         requires within { (self.old.progress.visited ≤ file.now)
-            × (file.now < self.old.places.marks.bound) }
-        requires least { NoneLive self.old.places.world self.old.progress.visited file.now }
+            × (file.now < self.old.holdings.marks.bound) }
+        requires least { NoneLive self.old.holdings.world self.old.progress.visited file.now }
         ensures kept { KeepsPass self.new }
-        ensures places { self.new.places
-            ≡ record self.old.places { marks = self.new.places.marks } }
+        ensures holdings { self.new.holdings
+            ≡ record self.old.holdings { marks = self.new.holdings.marks } }
         ensures begun { self.new.begun ≡ self.old.begun }
         ensures units { (0 < result) × (result ≤ left) }
         ensures progress { self.new.progress ≡ record self.old.progress {
@@ -215,8 +215,8 @@ impl Collector {
         } }
     {
         // Files' numbers are below the next one: that is what a whole world says of them.
-        self.places.lemma_is_whole();
-        let scanned = self.places.visit(file, left > 1);
+        self.holdings.lemma_is_whole();
+        let scanned = self.holdings.visit(file, left > 1);
         let units = if scanned { 2 } else { 1 };
         self.progress.visited = file.ino().0 + 1;
         self.progress.looked += u64::from(units);
@@ -229,17 +229,17 @@ impl Collector {
         requires kept { KeepsPass self.old }
         requires marking { self.old.progress.stage ≡ stage.Marking }
         ensures kept { KeepsPass self.new }
-        ensures places { self.new.places
-            ≡ record self.old.places { marks = self.new.places.marks } }
+        ensures holdings { self.new.holdings
+            ≡ record self.old.holdings { marks = self.new.holdings.marks } }
         ensures begun { self.new.begun ≡ self.old.begun }
         ensures progress { result ≡ true → self.new.progress
             ≡ record self.old.progress { looked = self.old.progress.looked + 1 } }
         ensures none { result ≡ false → (self.new ≡ self.old)
-            × ((f : ℕ) → is_grey self.old.places.marks f ≡ false) }
+            × ((f : ℕ) → is_grey self.old.holdings.marks f ≡ false) }
     {
         // A held file is live, as in each well-formed world.
-        self.places.lemma_is_whole();
-        let Some(_) = self.places.scan_next() else {
+        self.holdings.lemma_is_whole();
+        let Some(_) = self.holdings.scan_next() else {
             return false;
         };
         self.progress.looked += 1;
@@ -251,27 +251,27 @@ impl Collector {
     fn sweep(&mut self, file: &FileRef)
         requires kept { KeepsPass self.old }
         requires sweeping { self.old.progress.stage ≡ stage.Sweeping }
-        requires sound { IsSound self.old.places.world }
-        requires live { IsLive self.old.places.world file.now }
+        requires sound { IsSound self.old.holdings.world }
+        requires live { IsLive self.old.holdings.world file.now }
         requires within { (self.old.progress.swept ≤ file.now)
-            × (file.now < self.old.places.marks.bound) }
-        requires least { NoneLive self.old.places.world self.old.progress.swept file.now }
+            × (file.now < self.old.holdings.marks.bound) }
+        requires least { NoneLive self.old.holdings.world self.old.progress.swept file.now }
         ensures kept { KeepsPass self.new }
-        ensures sound { IsSound self.new.places.world }
-        ensures rows { self.new.places.rows ≡ self.old.places.rows }
-        ensures since { self.new.places.since ≡ self.old.places.since }
+        ensures sound { IsSound self.new.holdings.world }
+        ensures rows { self.new.holdings.rows ≡ self.old.holdings.rows }
+        ensures since { self.new.holdings.since ≡ self.old.holdings.since }
         ensures begun { self.new.begun ≡ self.old.begun }
         ensures stage { self.new.progress.stage ≡ stage.Sweeping }
         ensures looked { self.new.progress.looked ≡ self.old.progress.looked + 1 }
-        ensures purged { ArePurged self.old.begun.value.world self.old.places.world
-            self.new.places.world 1 }
+        ensures purged { ArePurged self.old.begun.value.world self.old.holdings.world
+            self.new.holdings.world 1 }
     {
         self.progress.swept = file.ino().0 + 1;
         self.progress.looked += 1;
-        if self.places.files().is_marked(file) {
+        if self.holdings.files().is_marked(file) {
             return;
         }
-        self.places.empty(file);
+        self.holdings.empty(file);
         self.release();
     }
 }

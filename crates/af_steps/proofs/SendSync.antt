@@ -16,7 +16,7 @@ use Rattle.af_ledger.proofs.ledger.Ledger.TheSendSync as ledger
 use Rattle.af_collect.specs.contracts.holdings.Holdings as Holdings
 use Rattle.af_collect.specs.contracts.holdings.Holdings.TheInside as HoldingsInside
 use Rattle.af_collect.proofs.progress.PassProgress.TheSendSync as progress
-use Rattle.af_collect.specs.contracts.parts.Collector as Collector
+use Rattle.af_collect.specs.contracts.collector.Collector as Collector
 use Rattle.af_collect.specs.contracts.store.Store as Store
 use Rattle.af_collect.specs.contracts.store.Store.TheInside as StoreInside
 use Rattle.af_steps.specs.contracts.engine.Engine as Engine

@@ -9,25 +9,25 @@ use Rattle.af_collect.proofs.shading.shade_attached.Goals as goal
 
 pub returns-then-held-lt-BATCH : goal.returns-then-held-lt-BATCH
 returns-then-held-lt-BATCH c =
-    let p = c.args.places.now in
+    let p = c.args.holdings.now in
     let all = attached_in (queue_at p.world c.args.file.now) in
     let from = c.loop-from.from in
     let held = c.as_slice-held.ensures.value ∙ c.attached_from-held.ensures.files ∙ ap (λ (s : HoldingsView). take BATCH (drop from (attached_in (queue_at s.world c.args.file.now)))) c.loop-from.invariant.frame in
     let few = subst (λ (xs : List ℕ). length xs < BATCH) held c.if-held-lt-BATCH.true in
-    let marks = ap (λ xs. shaded_all xs c.loop-from.places.marks) held ∙ shaded_last all from c.loop-from.places.marks few ∙ c.loop-from.invariant.marks in
-    c.shade_some.ensures ∙ ap (λ (s : HoldingsView). record s { marks = shaded_all c.as_slice-held.result.now c.loop-from.places.marks }) c.loop-from.invariant.frame ∙ ap (λ (m : MarksView). record p { marks = m }) marks
+    let marks = ap (λ xs. shaded_all xs c.loop-from.holdings.marks) held ∙ shaded_last all from c.loop-from.holdings.marks few ∙ c.loop-from.invariant.marks in
+    c.shade_some.ensures ∙ ap (λ (s : HoldingsView). record s { marks = shaded_all c.as_slice-held.result.now c.loop-from.holdings.marks }) c.loop-from.invariant.frame ∙ ap (λ (m : MarksView). record p { marks = m }) marks
 
 pub loop-from-preserved : goal.loop-from-preserved
 loop-from-preserved c =
-    let p = c.args.places.now in
+    let p = c.args.holdings.now in
     let all = attached_in (queue_at p.world c.args.file.now) in
     let from = c.loop-from.from in
     let held = c.as_slice-held.ensures.value ∙ c.attached_from-held.ensures.files ∙ ap (λ (s : HoldingsView). take BATCH (drop from (attached_in (queue_at s.world c.args.file.now)))) c.loop-from.invariant.frame in
     let full = subst (λ (xs : List ℕ). BATCH ≤ length xs) held c.if-held-lt-BATCH.false in
     let marks = ap (λ (s : HoldingsView). s.marks) c.shade_some.ensures in
-    let now = marks ∙ ap (λ xs. shaded_all xs c.loop-from.places.marks) held in
+    let now = marks ∙ ap (λ xs. shaded_all xs c.loop-from.holdings.marks) held in
     record {
-      frame = c.shade_some.ensures ∙ ap (λ (s : HoldingsView). record s { marks = shaded_all c.as_slice-held.result.now c.loop-from.places.marks }) c.loop-from.invariant.frame ∙ ap (λ (m : MarksView). record p { marks = m }) (sym marks);
-      within = shaded_within all from c.loop-from.places.marks full c.loop-from.invariant.within;
-      marks = ap (shaded_all (drop (from + BATCH) all)) now ∙ shaded_on all from c.loop-from.places.marks ∙ c.loop-from.invariant.marks;
+      frame = c.shade_some.ensures ∙ ap (λ (s : HoldingsView). record s { marks = shaded_all c.as_slice-held.result.now c.loop-from.holdings.marks }) c.loop-from.invariant.frame ∙ ap (λ (m : MarksView). record p { marks = m }) (sym marks);
+      within = shaded_within all from c.loop-from.holdings.marks full c.loop-from.invariant.within;
+      marks = ap (shaded_all (drop (from + BATCH) all)) now ∙ shaded_on all from c.loop-from.holdings.marks ∙ c.loop-from.invariant.marks;
     }

@@ -6,10 +6,10 @@ use Rattle.af_collect.proofs.shading.shade_attached.Given as goal
 
 abbrev pub invariant-loop-from : goal.invariant-loop-from
 invariant-loop-from l = record {
-  frame : l.places ≡ record l.fn.places { marks = l.places.marks };
-  within : l.from ≤ length (attached_in (queue_at l.fn.places.world l.fn.file));
-  marks : shaded_all (drop l.from (attached_in (queue_at l.fn.places.world l.fn.file))) l.places.marks ≡ shaded_all (attached_in (queue_at l.fn.places.world l.fn.file)) l.fn.places.marks;
+  frame : l.holdings ≡ record l.fn.holdings { marks = l.holdings.marks };
+  within : l.from ≤ length (attached_in (queue_at l.fn.holdings.world l.fn.file));
+  marks : shaded_all (drop l.from (attached_in (queue_at l.fn.holdings.world l.fn.file))) l.holdings.marks ≡ shaded_all (attached_in (queue_at l.fn.holdings.world l.fn.file)) l.fn.holdings.marks;
 }
 
 abbrev pub decreases-loop-from : goal.decreases-loop-from
-decreases-loop-from l = length (attached_in (queue_at l.fn.places.world l.fn.file)) - l.from
+decreases-loop-from l = length (attached_in (queue_at l.fn.holdings.world l.fn.file)) - l.from

@@ -6,7 +6,7 @@ use Rattle.af_collect.proofs.shading.shade_backlog.Given as goal
 
 abbrev pub invariant-loop-at : goal.invariant-loop-at
 invariant-loop-at l = record {
-  frame : l.places ≡ record l.fn.places { marks = l.places.marks };
-  end : l.at-end ≡ length (backlog_at l.fn.places.world l.fn.file);
-  marks : shaded_all (drop l.at (backlog_at l.fn.places.world l.fn.file)) l.places.marks ≡ shaded_all (backlog_at l.fn.places.world l.fn.file) l.fn.places.marks;
+  frame : l.holdings ≡ record l.fn.holdings { marks = l.holdings.marks };
+  end : l.at-end ≡ length (backlog_at l.fn.holdings.world l.fn.file);
+  marks : shaded_all (drop l.at (backlog_at l.fn.holdings.world l.fn.file)) l.holdings.marks ≡ shaded_all (backlog_at l.fn.holdings.world l.fn.file) l.fn.holdings.marks;
 }

@@ -6,7 +6,7 @@ use Rattle.af_collect.proofs.shading.shade_message.Given as goal
 
 abbrev pub invariant-loop-index : goal.invariant-loop-index
 invariant-loop-index l = record {
-  frame : l.places ≡ record l.fn.places { marks = l.places.marks };
-  end : l.index-end ≡ length (first_attached l.fn.places.world l.fn.file);
-  marks : shaded_all (drop l.index (first_attached l.fn.places.world l.fn.file)) l.places.marks ≡ shaded_all (first_attached l.fn.places.world l.fn.file) l.fn.places.marks;
+  frame : l.holdings ≡ record l.fn.holdings { marks = l.holdings.marks };
+  end : l.index-end ≡ length (first_attached l.fn.holdings.world l.fn.file);
+  marks : shaded_all (drop l.index (first_attached l.fn.holdings.world l.fn.file)) l.holdings.marks ≡ shaded_all (first_attached l.fn.holdings.world l.fn.file) l.fn.holdings.marks;
 }

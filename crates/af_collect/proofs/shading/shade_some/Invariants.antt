@@ -5,6 +5,6 @@ use Rattle.af_collect.proofs.shading.shade_some.Given as goal
 
 abbrev pub invariant-loop-file : goal.invariant-loop-file
 invariant-loop-file l = record {
-  frame : l.places ≡ record l.fn.places { marks = l.places.marks };
-  marks : shaded_all (drop l.file-index l.held) l.places.marks ≡ shaded_all l.held l.fn.places.marks;
+  frame : l.holdings ≡ record l.fn.holdings { marks = l.holdings.marks };
+  marks : shaded_all (drop l.file-index l.held) l.holdings.marks ≡ shaded_all l.held l.fn.holdings.marks;
 }

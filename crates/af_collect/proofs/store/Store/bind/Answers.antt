@@ -8,20 +8,20 @@ use Rattle.af_collect.specs.contracts.holdings.Holdings.{the_view}
 use Rattle.af_collect.proofs.StoreInvariant.{BothInvariants, seen-world, stands-socket, stood}
 use Rattle.af_collect.proofs.store.Store.bind.Goals as goal
 
-both : (c : goal.After-bind) → BothInvariants c.self.inside.parts c.places.inside.procs c.bind.new.self c.places.inside.ledger
+both : (c : goal.After-bind) → BothInvariants c.self.inside.collector c.holdings.inside.procs c.bind.new.self c.holdings.inside.ledger
 both c =
-    let p = c.self.inside.parts in
-    let h = c.places.inside in
+    let p = c.self.inside.collector in
+    let h = c.holdings.inside in
     let w = (the_view h).world in
-    let back = seen-world p h _ c.places.view_is c.self.view_is in
-    let was = stood p h c.places.view_is c.places.invariant c.self.invariant in
+    let back = seen-world p h _ c.holdings.view_is c.self.view_is in
+    let was = stood p h c.holdings.view_is c.holdings.invariant c.self.invariant in
     let s = c.args.socket.now in
     let free = subst (λ (v : World). named v.files c.args.name.now ≡ None) back c.requires.free in
     let e = c.bind.ensures in
     stands-socket c.bind.result p h _ e.err was s (with_name c.args.name.now) (λ x. refl) e.ok (exact-bound w s c.args.name.now (kept_of h.files.counts h.ledger) c.requires.name free was.0)
 
-pub invariant_of-places : goal.invariant_of-places
-invariant_of-places c = (both c).0
+pub invariant_of-holdings : goal.invariant_of-holdings
+invariant_of-holdings c = (both c).0
 
 pub invariant_of-self : goal.invariant_of-self
 invariant_of-self c = (both c).1

@@ -17,13 +17,13 @@ loop-init c =
     let w = c.args.self.now.world in
     let e = c.begin.ensures in
     let was = ap (λ (s : StoreView). s.world) c.self.view_is in
-    let same = ap (λ (s : HoldingsView). s.world) e.places ∙ was in
+    let same = ap (λ (s : HoldingsView). s.world) e.holdings ∙ was in
     record {
       kept = e.kept;
       running = ap is_running e.stage;
       sound = subst IsSound (sym same) c.requires.sound;
       begun = ap (λ (s : HoldingsView). s.world) e.begun ∙ was;
-      since = ap (λ (s : HoldingsView). s.since) e.places ∙ ap (λ (s : StoreView). s.since) c.self.view_is;
+      since = ap (λ (s : HoldingsView). s.since) e.holdings ∙ ap (λ (s : StoreView). s.since) c.self.view_is;
       purged = (0, subst (λ v. ArePurged w w v 0) (sym same) (purged_none w 0 c.requires.sound.settled));
     }
 
@@ -31,8 +31,8 @@ loop-init c =
 pub loop-preserved : goal.loop-preserved
 loop-preserved c =
     let w = c.args.self.now.world in
-    let b = c.loop.self-inside.parts.places.world in
-    let d = c.units.new.self.places.world in
+    let b = c.loop.self-inside.collector.holdings.world in
+    let d = c.units.new.self.holdings.world in
     let i = c.loop.invariant in
     let u = c.units.ensures in
     record {
@@ -48,8 +48,8 @@ loop-preserved c =
 pub returns-clause-collects : goal.returns-clause-collects
 returns-clause-collects c =
     let w = c.args.self.now.world in
-    let b = c.loop.self-inside.parts.places.world in
-    let d = c.units.new.self.places.world in
+    let b = c.loop.self-inside.collector.holdings.world in
+    let d = c.units.new.self.holdings.world in
     let i = c.loop.invariant in
     let u = c.units.ensures in
     let over = c.loop-test.false in

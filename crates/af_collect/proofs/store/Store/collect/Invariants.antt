@@ -9,13 +9,13 @@ use Rattle.af_collect.proofs.store.Store.collect.Given as goal
 
 abbrev pub invariant-loop : goal.invariant-loop
 invariant-loop l = record {
-  kept : KeepsPass l.self-inside.parts;
-  running : is_running l.self-inside.parts.progress.stage ≡ true;
-  sound : IsSound l.self-inside.parts.places.world;
-  begun : l.self-inside.parts.begun.value.world ≡ l.fn.self.world;
-  since : l.self-inside.parts.places.since ≡ l.fn.self.since;
-  purged : (n : ℕ) × ArePurged l.fn.self.world l.fn.self.world l.self-inside.parts.places.world n;
+  kept : KeepsPass l.self-inside.collector;
+  running : is_running l.self-inside.collector.progress.stage ≡ true;
+  sound : IsSound l.self-inside.collector.holdings.world;
+  begun : l.self-inside.collector.begun.value.world ≡ l.fn.self.world;
+  since : l.self-inside.collector.holdings.since ≡ l.fn.self.since;
+  purged : (n : ℕ) × ArePurged l.fn.self.world l.fn.self.world l.self-inside.collector.holdings.world n;
 }
 
 abbrev pub decreases-loop : goal.decreases-loop
-decreases-loop l = 3 * map.len l.fn.self.world.files - l.self-inside.parts.progress.looked
+decreases-loop l = 3 * map.len l.fn.self.world.files - l.self-inside.collector.progress.looked

@@ -37,13 +37,13 @@ module _ (w : World) (ps : Map Process) (pid child : ℕ) (added : ps ≡ map.in
 pub unwrap-process-requires : goal.unwrap-process-requires
 unwrap-process-requires c =
     let e = c.in_ok-child.ensures in
-    found-some _ _ (child-there (the_view c.places.inside).world _ c.args.pid c.in_ok-child.child e.processes e.pid) c.find.result c.find.ensures.none
+    found-some _ _ (child-there (the_view c.holdings.inside).world _ c.args.pid c.in_ok-child.child e.processes e.pid) c.find.result c.find.ensures.none
 
 pub ref_table-requires : goal.ref_table-requires
 ref_table-requires c =
-    let h = c.places.inside in
+    let h = c.holdings.inside in
     let w = (the_view h).world in
-    let back = seen-world c.self.inside.parts c.places.inside _ c.places.view_is c.self.view_is in
+    let back = seen-world c.self.inside.collector c.holdings.inside _ c.holdings.view_is c.self.view_is in
     let room = subst (λ (v : World). is_at_process_limit v ≡ false) back c.requires.room in
     let there = subst (λ (v : World). IsTrue (map.contains_key v.processes c.args.pid)) back c.requires.there in
     let e = c.in_ok-child.ensures in
@@ -51,17 +51,17 @@ ref_table-requires c =
     let found = subst (λ o. IfSome o (λ p. map.get c.copy_for_fork.new.self.processes c.in_ok-child.child ≡ Some p.now.process)) c.unwrap-process.ensures c.find.ensures.there in
     let is = child-is w _ c.args.pid c.in_ok-child.child e.processes e.pid q found in
     let at = process-there w c.args.pid (ap not there) ∙ ap Some (sym is) in
-    (w, h.ledger, c.args.pid, at, joins-copy w c.args.pid q (kept_of h.files.counts h.ledger) room there is c.places.invariant)
+    (w, h.ledger, c.args.pid, at, joins-copy w c.args.pid q (kept_of h.files.counts h.ledger) room there is c.holdings.invariant)
 
-both : (c : goal.After-ref_table) → BothInvariants c.self.inside.parts c.copy_for_fork.new.self c.ref_table.new.files c.places.inside.ledger
+both : (c : goal.After-ref_table) → BothInvariants c.self.inside.collector c.copy_for_fork.new.self c.ref_table.new.files c.holdings.inside.ledger
 both c =
-    let p = c.self.inside.parts in
-    let h = c.places.inside in
+    let p = c.self.inside.collector in
+    let h = c.holdings.inside in
     let w = (the_view h).world in
     let begun = p.begun.value.world in
     let pid = c.args.pid in
-    let was = stood p h c.places.view_is c.places.invariant c.self.invariant in
-    let back = seen-world c.self.inside.parts c.places.inside _ c.places.view_is c.self.view_is in
+    let was = stood p h c.holdings.view_is c.holdings.invariant c.self.invariant in
+    let back = seen-world c.self.inside.collector c.holdings.inside _ c.holdings.view_is c.self.view_is in
     let room = subst (λ (v : World). is_at_process_limit v ≡ false) back c.requires.room in
     let there = subst (λ (v : World). IsTrue (map.contains_key v.processes pid)) back c.requires.there in
     let child = process_at w pid in
@@ -75,8 +75,8 @@ both c =
     (subst (λ r. IsExact (add_process w r) (kept_of c.ref_table.new.files.counts h.ledger)) is exact)
     (kept_tables (add_process w child) refl refl (λ _. moves_fork begun w pid there) (λ _. covers_add_process begun w child (is_marked h.files.marks) (below p.progress.visited) was.0.whole.processes_numbered) was.1)
 
-pub invariant_of-places-2 : goal.invariant_of-places-2
-invariant_of-places-2 c = (both c).0
+pub invariant_of-holdings-2 : goal.invariant_of-holdings-2
+invariant_of-holdings-2 c = (both c).0
 
 pub invariant_of-self-2 : goal.invariant_of-self-2
 invariant_of-self-2 c = (both c).1

@@ -13,23 +13,23 @@ use Rattle.af_collect.proofs.store.Store.listen.Goals as goal
 pub listen-requires-clause-nobody : goal.listen-requires-clause-nobody
 listen-requires-clause-nobody c =
     let s = c.args.socket.now in
-    let back = seen-world c.self.inside.parts c.places.inside _ c.places.view_is c.self.view_is in
-    idle-alone (the_view c.places.inside).world s c.places.invariant.within (subst (λ (v : World). IfSome (socket_at v s) (λ x. x.state ≡ state.Idle)) back c.requires.idle)
+    let back = seen-world c.self.inside.collector c.holdings.inside _ c.holdings.view_is c.self.view_is in
+    idle-alone (the_view c.holdings.inside).world s c.holdings.invariant.within (subst (λ (v : World). IfSome (socket_at v s) (λ x. x.state ≡ state.Idle)) back c.requires.idle)
 
-both : (c : goal.After-listen) → BothInvariants c.self.inside.parts c.places.inside.procs c.listen.new.self c.places.inside.ledger
+both : (c : goal.After-listen) → BothInvariants c.self.inside.collector c.holdings.inside.procs c.listen.new.self c.holdings.inside.ledger
 both c =
-    let p = c.self.inside.parts in
-    let h = c.places.inside in
+    let p = c.self.inside.collector in
+    let h = c.holdings.inside in
     let w = (the_view h).world in
-    let back = seen-world p h _ c.places.view_is c.self.view_is in
-    let was = stood p h c.places.view_is c.places.invariant c.self.invariant in
+    let back = seen-world p h _ c.holdings.view_is c.self.view_is in
+    let was = stood p h c.holdings.view_is c.holdings.invariant c.self.invariant in
     let s = c.args.socket.now in
     let idle = subst (λ (v : World). IfSome (socket_at v s) (λ x. x.state ≡ state.Idle)) back c.requires.idle in
     let e = c.listen.ensures in
     stands-socket c.listen.result p h _ e.err was s (listening c.args.most) (λ x. refl) e.ok (exact-listening w s c.args.most (kept_of h.files.counts h.ledger) idle c.requires.some c.requires.few was.0)
 
-pub invariant_of-places : goal.invariant_of-places
-invariant_of-places c = (both c).0
+pub invariant_of-holdings : goal.invariant_of-holdings
+invariant_of-holdings c = (both c).0
 
 pub invariant_of-self : goal.invariant_of-self
 invariant_of-self c = (both c).1

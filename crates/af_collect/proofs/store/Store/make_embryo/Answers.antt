@@ -12,31 +12,31 @@ use Rattle.af_collect.proofs.store.Store.make_embryo.Goals as goal
 -- The listener stays as it is while the embryo is made.
 pub enqueue-requires : goal.enqueue-requires
 enqueue-requires c =
-    let p = c.self.inside.parts in
-    let h = c.places.inside in
+    let p = c.self.inside.collector in
+    let h = c.holdings.inside in
     let s = c.args.client.now in
     let l = c.args.listener.now in
-    let was = stood p h c.places.view_is c.places.invariant c.self.invariant in
+    let was = stood p h c.holdings.view_is c.holdings.invariant c.self.invariant in
     let r = c.requires in
-    let asked = subst (λ (v : World). Connects v s l) (seen-world p h _ c.places.view_is c.self.view_is) (r.full, r.client, r.idle, r.listener, r.room) in
+    let asked = subst (λ (v : World). Connects v s l) (seen-world p h _ c.holdings.view_is c.self.view_is) (r.full, r.client, r.idle, r.listener, r.room) in
     let same = ap (λ (fs : FilesView). socket_in fs.files l) c.in_ok-embryo.ensures.ok ∙ ap (option_and_then socket_of) (stays p h was c.args.kind s l asked) in
     subst (λ o. IfSome o (λ x. length x.backlog < room_of x.state)) (sym same) asked.4
 
-both : (c : goal.After-enqueue) → BothInvariants c.self.inside.parts c.places.inside.procs c.enqueue.new.self c.places.inside.ledger
+both : (c : goal.After-enqueue) → BothInvariants c.self.inside.collector c.holdings.inside.procs c.enqueue.new.self c.holdings.inside.ledger
 both c =
-    let p = c.self.inside.parts in
-    let h = c.places.inside in
+    let p = c.self.inside.collector in
+    let h = c.holdings.inside in
     let s = c.args.client.now in
     let l = c.args.listener.now in
-    let was = stood p h c.places.view_is c.places.invariant c.self.invariant in
+    let was = stood p h c.holdings.view_is c.holdings.invariant c.self.invariant in
     let r = c.requires in
-    let asked = subst (λ (v : World). Connects v s l) (seen-world p h _ c.places.view_is c.self.view_is) (r.full, r.client, r.idle, r.listener, r.room) in
+    let asked = subst (λ (v : World). Connects v s l) (seen-world p h _ c.holdings.view_is c.self.view_is) (r.full, r.client, r.idle, r.listener, r.room) in
     let made = c.in_ok-embryo.ensures in
     subst (λ fs. BothInvariants p h.procs fs h.ledger) (sym (c.enqueue.ensures ∙ (λ i. changed (queued (made.ino i)) l (made.ok i))))
     (stands-embryo p h was c.args.kind s l asked)
 
-pub invariant_of-places-2 : goal.invariant_of-places-2
-invariant_of-places-2 c = (both c).0
+pub invariant_of-holdings-2 : goal.invariant_of-holdings-2
+invariant_of-holdings-2 c = (both c).0
 
 pub invariant_of-self-2 : goal.invariant_of-self-2
 invariant_of-self-2 c = (both c).1

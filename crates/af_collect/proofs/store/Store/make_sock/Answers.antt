@@ -6,15 +6,15 @@ use Rattle.af_collect.proofs.SocketStates.{exact-idle}
 use Rattle.af_collect.proofs.StoreInvariant.{BothInvariants, stood}
 use Rattle.af_collect.proofs.store.Store.make_sock.Goals as goal
 
-both : (c : goal.After-install) → BothInvariants c.self.inside.parts c.install.new.self c.make_sock.new.self c.places.inside.ledger
+both : (c : goal.After-install) → BothInvariants c.self.inside.collector c.install.new.self c.make_sock.new.self c.holdings.inside.ledger
 both c =
-    let p = c.self.inside.parts in
-    let h = c.places.inside in
-    stands-made p h (stood p h c.places.view_is c.places.invariant c.self.invariant) _ c.places.view_is c.self.view_is c.args.pid c.args.fd (c.requires.full, c.requires.there, c.requires.limit, c.requires.free)
+    let p = c.self.inside.collector in
+    let h = c.holdings.inside in
+    stands-made p h (stood p h c.holdings.view_is c.holdings.invariant c.self.invariant) _ c.holdings.view_is c.self.view_is c.args.pid c.args.fd (c.requires.full, c.requires.there, c.requires.limit, c.requires.free)
     (AsSocket (idle_socket c.args.kind)) refl (exact-idle _ c.args.kind _) c.install.new.self _ c.install.ensures.processes c.install.ensures.next c.in_ok-file.ensures.ino _ c.in_ok-file.ensures.ok
 
-pub invariant_of-places-2 : goal.invariant_of-places-2
-invariant_of-places-2 c = (both c).0
+pub invariant_of-holdings-2 : goal.invariant_of-holdings-2
+invariant_of-holdings-2 c = (both c).0
 
 pub invariant_of-self-2 : goal.invariant_of-self-2
 invariant_of-self-2 c = (both c).1

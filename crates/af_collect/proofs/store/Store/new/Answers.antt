@@ -6,5 +6,5 @@ use Rattle.af_collect.proofs.store.Store.new.Goals as goal
 
 pub invariant_of-result : goal.invariant_of-result
 invariant_of-result c =
-    let p = c.new-places.result in
-    record { known = subst (λ (w : World). AreKnown w p.marks) (sym c.new-places.ensures.world) (known_empty p.marks c.new-places.ensures.marks); stage = tt }
+    let p = c.new-holdings.result in
+    record { known = subst (λ (w : World). AreKnown w p.marks) (sym c.new-holdings.ensures.world) (known_empty p.marks c.new-holdings.ensures.marks); stage = tt }

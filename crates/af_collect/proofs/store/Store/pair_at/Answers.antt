@@ -25,26 +25,26 @@ abbrev paired_at : SockType → ℕ → ℕ → ℕ → World → World
 paired_at kind p lower higher w = install (install (with_pair w kind) p lower w.next_ino) p higher (w.next_ino + 1)
 
 -- Without memory for the two.
-neither : (c : In_err-first) → BothInvariants c.self.inside.parts (with_process c.places.inside.procs c.args.pid c.in_ok-process.process.now) c.make_two.new.self c.places.inside.ledger
+neither : (c : In_err-first) → BothInvariants c.self.inside.collector (with_process c.holdings.inside.procs c.args.pid c.in_ok-process.process.now) c.make_two.new.self c.holdings.inside.ledger
 neither c =
-    let p = c.self.inside.parts in
-    let h = c.places.inside in
-    stands-lent p h c.args.pid c.in_ok-process.process.now c.in_ok-process.ensures.there _ c.in_err-first.ensures.err (stood p h c.places.view_is c.places.invariant c.self.invariant)
+    let p = c.self.inside.collector in
+    let h = c.holdings.inside in
+    stands-lent p h c.args.pid c.in_ok-process.process.now c.in_ok-process.ensures.there _ c.in_err-first.ensures.err (stood p h c.holdings.view_is c.holdings.invariant c.self.invariant)
 
-pub invariant_of-places-in-Break-branch-2 : goal.invariant_of-places-in-Break-branch-2
-invariant_of-places-in-Break-branch-2 c = (neither (goal.at.invariant_of-places-in-Break-branch-2 c).In_err-first).0
+pub invariant_of-holdings-in-Break-branch-2 : goal.invariant_of-holdings-in-Break-branch-2
+invariant_of-holdings-in-Break-branch-2 c = (neither (goal.at.invariant_of-holdings-in-Break-branch-2 c).In_err-first).0
 
 pub invariant_of-self-in_err-first : goal.invariant_of-self-in_err-first
 invariant_of-self-in_err-first c = (neither (goal.at.invariant_of-self-in_err-first c).In_err-first).1
 
 pub returns-in_err-first-clause-err : goal.returns-in_err-first-clause-err
-returns-in_err-first-clause-err c = error-lent c.self.inside.parts c.places.inside c.args.pid c.in_ok-process.process.now c.in_ok-process.ensures.there _ c.in_err-first.ensures.err c.from_residual-in_err-first.result _ c.places.view_is c.self.view_is
+returns-in_err-first-clause-err c = error-lent c.self.inside.collector c.holdings.inside c.args.pid c.in_ok-process.process.now c.in_ok-process.ensures.there _ c.in_err-first.ensures.err c.from_residual-in_err-first.result _ c.holdings.view_is c.self.view_is
 
 -- The two descriptors are free.
 below : (c : In_ok-first) → AreFree c.in_ok-process.process.now.process (c.args.lower ∷ c.args.higher ∷ [])
 below c =
-    let w = (the_view c.places.inside).world in
-    let back = seen-world c.self.inside.parts c.places.inside _ c.places.view_is c.self.view_is in
+    let w = (the_view c.holdings.inside).world in
+    let back = seen-world c.self.inside.collector c.holdings.inside _ c.holdings.view_is c.self.view_is in
     let lowest = subst (λ (v : World). c.args.lower ∷ c.args.higher ∷ [] ≡ lowest_free 2 (process_at v c.args.pid)) back c.requires.lowest in
     subst (λ q. AreFree q (c.args.lower ∷ c.args.higher ∷ [])) (ap (λ o. unwrap_or o no_process) c.in_ok-process.ensures.there) (subst (AreFree (process_at w c.args.pid)) (sym lowest) (free-lowest_free 2 (process_at w c.args.pid)))
 
@@ -64,9 +64,9 @@ install-requires-2 c =
     omega (arith, low, room, row)
 
 -- The lent process is written back with both.
-written : (c : After-install-2) → (with_process c.places.inside.procs c.args.pid c.install-2.new.self).processes ≡ (paired_at c.args.kind c.args.pid c.args.lower c.args.higher (the_view c.places.inside).world).processes
+written : (c : After-install-2) → (with_process c.holdings.inside.procs c.args.pid c.install-2.new.self).processes ≡ (paired_at c.args.kind c.args.pid c.args.lower c.args.higher (the_view c.holdings.inside).world).processes
 written c =
-    let h = c.places.inside in
+    let h = c.holdings.inside in
     let pid = c.args.pid in
     let lower = c.args.lower in
     let higher = c.args.higher in
@@ -80,17 +80,17 @@ written c =
     ∙ ap (λ t. change_at (installed higher (h.files.next + 1)) t pid) (back-changed (installed lower h.files.next) m pid q _ c.in_ok-process.ensures.there refl)
 
 -- The new sockets are at its descriptors.
-both : (c : After-install-2) → BothInvariants c.self.inside.parts (with_process c.places.inside.procs c.args.pid c.install-2.new.self) c.make_two.new.self c.places.inside.ledger
+both : (c : After-install-2) → BothInvariants c.self.inside.collector (with_process c.holdings.inside.procs c.args.pid c.install-2.new.self) c.make_two.new.self c.holdings.inside.ledger
 both c =
-    let p = c.self.inside.parts in
-    let h = c.places.inside in
-    stands-pair p h (stood p h c.places.view_is c.places.invariant c.self.invariant) _ c.places.view_is c.self.view_is c.args.kind c.args.pid c.args.lower c.args.higher (c.requires.full, c.requires.there, c.requires.lowest)
+    let p = c.self.inside.collector in
+    let h = c.holdings.inside in
+    stands-pair p h (stood p h c.holdings.view_is c.holdings.invariant c.self.invariant) _ c.holdings.view_is c.self.view_is c.args.kind c.args.pid c.args.lower c.args.higher (c.requires.full, c.requires.there, c.requires.lowest)
     (with_process h.procs c.args.pid c.install-2.new.self) (written c) refl _ c.in_ok-first.ensures.ok
 
 pub returns-clause-ok : goal.returns-clause-ok
 returns-clause-ok c =
-    let p = c.self.inside.parts in
-    let h = c.places.inside in
+    let p = c.self.inside.collector in
+    let h = c.holdings.inside in
     let rows = (with_process h.procs c.args.pid c.install-2.new.self).rows in
     let marks = c.make_two.new.self.marks in
     let made = c.in_ok-first.ensures.ok in
@@ -103,11 +103,11 @@ returns-clause-ok c =
       marks = marks;
       since = (made i).since;
     }))
-    ∙ ap {A = HoldingsView} {B = StoreView} (λ t. shown p (record t { world = to t.world; rows = rows; marks = marks })) c.places.view_is
+    ∙ ap {A = HoldingsView} {B = StoreView} (λ t. shown p (record t { world = to t.world; rows = rows; marks = marks })) c.holdings.view_is
     ∙ ap {A = StoreView} {B = StoreView} (λ t. record t { world = to t.world; rows = rows; marks = marks }) c.self.view_is
 
-pub invariant_of-places-2 : goal.invariant_of-places-2
-invariant_of-places-2 c = (both (goal.at.invariant_of-places-2 c).After-install-2).0
+pub invariant_of-holdings-2 : goal.invariant_of-holdings-2
+invariant_of-holdings-2 c = (both (goal.at.invariant_of-holdings-2 c).After-install-2).0
 
 pub invariant_of-self-2 : goal.invariant_of-self-2
 invariant_of-self-2 c = (both (goal.at.invariant_of-self-2 c).After-install-2).1

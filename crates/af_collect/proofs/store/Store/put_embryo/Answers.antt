@@ -19,16 +19,16 @@ use Rattle.af_collect.proofs.PlaceChanges.{kept_socket}
 use Rattle.af_collect.proofs.StoreInvariant.{BothInvariants, seen-world, stood}
 use Rattle.af_collect.proofs.store.Store.put_embryo.Goals as goal
 
-both : (c : goal.After-enqueue) → BothInvariants c.self.inside.parts c.places.inside.procs c.enqueue.new.self c.places.inside.ledger
+both : (c : goal.After-enqueue) → BothInvariants c.self.inside.collector c.holdings.inside.procs c.enqueue.new.self c.holdings.inside.ledger
 both c =
-    let p = c.self.inside.parts in
-    let h = c.places.inside in
+    let p = c.self.inside.collector in
+    let h = c.holdings.inside in
     let w = (the_view h).world in
     let begun = p.begun.value.world in
     let s = c.args.listener.now in
     let f = c.args.embryo in
-    let was = stood p h c.places.view_is c.places.invariant c.self.invariant in
-    let back = seen-world c.self.inside.parts c.places.inside _ c.places.view_is c.self.view_is in
+    let was = stood p h c.holdings.view_is c.holdings.invariant c.self.invariant in
+    let back = seen-world c.self.inside.collector c.holdings.inside _ c.holdings.view_is c.self.view_is in
     let at = is-socket w s (subst (λ (v : World). is_none (socket_at v s) ≡ false) back c.requires.socket) in
     let live = subst (λ (v : World). IsLive v f) back c.requires.live in
     let none = subst (λ (v : World). waiting v f ≡ 0) back c.requires.new in
@@ -40,8 +40,8 @@ both c =
       kept_socket s (queued f) (λ e. moves_queued begun w s f (spared_running p.progress.stage begun p.progress.looked f e spared)) (λ _. covers_queued begun w s f (is_marked h.files.marks) (below p.progress.visited)) was.1,
     )
 
-pub invariant_of-places : goal.invariant_of-places
-invariant_of-places c = (both c).0
+pub invariant_of-holdings : goal.invariant_of-holdings
+invariant_of-holdings c = (both c).0
 
 pub invariant_of-self : goal.invariant_of-self
 invariant_of-self c = (both c).1

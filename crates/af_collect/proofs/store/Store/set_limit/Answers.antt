@@ -7,17 +7,17 @@ use Rattle.af_collect.proofs.PlaceChanges.{kept_limited}
 use Rattle.af_collect.proofs.StoreInvariant.{BothInvariants, both-same, stood}
 use Rattle.af_collect.proofs.store.Store.set_limit.Goals as goal
 
-both : (c : goal.After-set_limit) → BothInvariants c.self.inside.parts c.set_limit.new.self c.places.inside.files c.places.inside.ledger
+both : (c : goal.After-set_limit) → BothInvariants c.self.inside.collector c.set_limit.new.self c.holdings.inside.files c.holdings.inside.ledger
 both c =
-    let h = c.places.inside in
+    let h = c.holdings.inside in
     let w = (the_view h).world in
     let e = c.set_limit.ensures in
-    let was = stood c.self.inside.parts h c.places.view_is c.places.invariant c.self.invariant in
+    let was = stood c.self.inside.collector h c.holdings.view_is c.holdings.invariant c.self.invariant in
     both-same _ (set_limit w c.args.pid c.args.limit) _ _ _ _ (world-is _ _ e.processes refl refl e.next refl) refl refl
     (exact-limited w c.args.pid c.args.limit (kept_of h.files.counts h.ledger) c.requires was.0) (kept_limited c.args.pid c.args.limit was.1)
 
-pub invariant_of-places : goal.invariant_of-places
-invariant_of-places c = (both c).0
+pub invariant_of-holdings : goal.invariant_of-holdings
+invariant_of-holdings c = (both c).0
 
 pub invariant_of-self : goal.invariant_of-self
 invariant_of-self c = (both c).1

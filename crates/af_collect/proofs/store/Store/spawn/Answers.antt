@@ -17,15 +17,15 @@ use Rattle.af_collect.proofs.PlaceChanges.{files_spawned, kept_tables}
 use Rattle.af_collect.proofs.StoreInvariant.{BothInvariants, both-same, seen-world, stood}
 use Rattle.af_collect.proofs.store.Store.spawn.Goals as goal
 
-both : (c : goal.After-spawn) → BothInvariants c.self.inside.parts c.spawn.new.self c.places.inside.files c.add_user.new.self
+both : (c : goal.After-spawn) → BothInvariants c.self.inside.collector c.spawn.new.self c.holdings.inside.files c.add_user.new.self
 both c =
-    let p = c.self.inside.parts in
-    let h = c.places.inside in
+    let p = c.self.inside.collector in
+    let h = c.holdings.inside in
     let w = (the_view h).world in
     let begun = p.begun.value.world in
     let a = c.args in
-    let was = stood p h c.places.view_is c.places.invariant c.self.invariant in
-    let back = seen-world c.self.inside.parts c.places.inside _ c.places.view_is c.self.view_is in
+    let was = stood p h c.holdings.view_is c.holdings.invariant c.self.invariant in
+    let back = seen-world c.self.inside.collector c.holdings.inside _ c.holdings.view_is c.self.view_is in
     let room = subst (λ (v : World). is_at_process_limit v ≡ false) back c.requires.room in
     let more = add_process w (started a.uid a.limit a.privileged) in
     let processes = c.spawn.ensures.processes ∙ (λ i. map.insert (c.room_to_spawn.ensures.processes i) (c.room_to_spawn.ensures.next i) (started a.uid a.limit a.privileged)) in
@@ -37,8 +37,8 @@ both c =
     (exact-spawned w a.uid a.limit a.privileged (kept_of h.files.counts h.ledger) room c.requires.limit was.0)
     (kept_tables (spawned w a.uid a.limit a.privileged) same_files.0 same_files.1 (λ _. moves_spawned begun w a.uid a.limit a.privileged) (λ _. covers_spawned begun w a.uid a.limit a.privileged (is_marked h.files.marks) (below p.progress.visited) was.0.whole.processes_numbered) was.1)
 
-pub invariant_of-places-2 : goal.invariant_of-places-2
-invariant_of-places-2 c = (both c).0
+pub invariant_of-holdings-2 : goal.invariant_of-holdings-2
+invariant_of-holdings-2 c = (both c).0
 
 pub invariant_of-self-2 : goal.invariant_of-self-2
 invariant_of-self-2 c = (both c).1

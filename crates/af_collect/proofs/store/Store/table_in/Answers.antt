@@ -23,19 +23,19 @@ use Rattle.af_collect.proofs.StoreInvariant.{BothInvariants, both-same, seen-wor
 use Rattle.af_collect.proofs.store.Store.table_in.Goals as goal
 
 pub hold-requires-clause-countable : goal.hold-requires-clause-countable
-hold-requires-clause-countable c = (can-hold-table (the_view c.places.inside).world c.args.file (kept_of c.places.inside.files.counts c.places.inside.ledger) c.places.invariant.within c.places.invariant.agrees).0
+hold-requires-clause-countable c = (can-hold-table (the_view c.holdings.inside).world c.args.file (kept_of c.holdings.inside.files.counts c.holdings.inside.ledger) c.holdings.invariant.within c.holdings.invariant.agrees).0
 
-both : (c : goal.After-install) → BothInvariants c.self.inside.parts c.install.new.self c.hold.new.self c.places.inside.ledger
+both : (c : goal.After-install) → BothInvariants c.self.inside.collector c.install.new.self c.hold.new.self c.holdings.inside.ledger
 both c =
-    let p = c.self.inside.parts in
-    let h = c.places.inside in
+    let p = c.self.inside.collector in
+    let h = c.holdings.inside in
     let w = (the_view h).world in
     let begun = p.begun.value.world in
     let pid = c.args.pid in
     let fd = c.args.fd in
     let f = c.args.file in
-    let was = stood p h c.places.view_is c.places.invariant c.self.invariant in
-    let back = seen-world c.self.inside.parts c.places.inside _ c.places.view_is c.self.view_is in
+    let was = stood p h c.holdings.view_is c.holdings.invariant c.self.invariant in
+    let back = seen-world c.self.inside.collector c.holdings.inside _ c.holdings.view_is c.self.view_is in
     let there = process-there w pid (ap not (subst (λ (v : World). IsTrue (map.contains_key v.processes pid)) back c.requires.there)) in
     let free = subst (λ (v : World). table_at v pid fd ≡ None) back c.requires.free in
     let none = sym (there-table w pid fd (process_at w pid) there) ∙ free in
@@ -46,8 +46,8 @@ both c =
     (exact-install w pid fd f (process_at w pid) (kept_of h.files.counts h.ledger) there none low live was.0)
     (kept_tables (install w pid fd f) refl refl (λ e. moves_install begun w pid fd f (spared_running p.progress.stage begun p.progress.looked f e spared)) (λ _. covers_install begun w pid fd f (is_marked h.files.marks) (below p.progress.visited) free) was.1)
 
-pub invariant_of-places : goal.invariant_of-places
-invariant_of-places c = (both c).0
+pub invariant_of-holdings : goal.invariant_of-holdings
+invariant_of-holdings c = (both c).0
 
 pub invariant_of-self : goal.invariant_of-self
 invariant_of-self c = (both c).1

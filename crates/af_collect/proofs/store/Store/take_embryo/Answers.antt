@@ -26,7 +26,7 @@ use Rattle.af_collect.proofs.SocketChanges.{covers_dequeued, moves_dequeued}
 use Rattle.af_collect.proofs.SparedFiles.{held_spared, marking_runs, spared_running}
 use Rattle.af_collect.specs.StoreView.{MarksAll, StoreView}
 use Rattle.af_collect.specs.contracts.holdings.Holdings.{the_view}
-use Rattle.af_collect.specs.declared.parts.Collector.{Collector}
+use Rattle.af_collect.specs.declared.collector.Collector.{Collector}
 use Rattle.af_collect.proofs.LostFiles.{embryo_held, first_taken}
 use Rattle.af_collect.proofs.PlaceChanges.{kept_socket, kept_tables}
 use Rattle.af_collect.proofs.StoreInvariant.{BothInvariants, both-same, stood}
@@ -34,23 +34,23 @@ use Rattle.af_collect.proofs.store.Store.take_embryo.Goals as goal
 
 pub move_to_table-requires-clause-counted : goal.move_to_table-requires-clause-counted
 move_to_table-requires-clause-counted c =
-    let h = c.places.inside in
+    let h = c.holdings.inside in
     let w = (the_view h).world in
     let s = c.args.listener.now in
     let f = c.unwrap-embryo.result in
     let x = embryo-taken w s f c.dequeue.result c.unwrap-embryo.ensures c.dequeue.ensures.some in
-    subst (λ (v : FilesView). IsCounted Backlog (count_in_map v.counts f)) (sym c.dequeue.ensures.rest) (can-drop-backlog w s f x.0 (kept_of h.files.counts h.ledger) x.1 x.2 c.places.invariant.agrees).0
+    subst (λ (v : FilesView). IsCounted Backlog (count_in_map v.counts f)) (sym c.dequeue.ensures.rest) (can-drop-backlog w s f x.0 (kept_of h.files.counts h.ledger) x.1 x.2 c.holdings.invariant.agrees).0
 
 pub move_to_table-requires-clause-countable : goal.move_to_table-requires-clause-countable
 move_to_table-requires-clause-countable c =
-    let h = c.places.inside in
+    let h = c.holdings.inside in
     let f = c.unwrap-embryo.result in
-    subst (λ (v : FilesView). IsCountable Table (count_in_map v.counts f)) (sym c.dequeue.ensures.rest) (can-hold-table (the_view h).world f (kept_of h.files.counts h.ledger) c.places.invariant.within c.places.invariant.agrees).0
+    subst (λ (v : FilesView). IsCountable Table (count_in_map v.counts f)) (sym c.dequeue.ensures.rest) (can-hold-table (the_view h).world f (kept_of h.files.counts h.ledger) c.holdings.invariant.within c.holdings.invariant.agrees).0
 
-both : (c : goal.After-install) → BothInvariants c.shade_embryo.new.self c.install.new.self c.move_to_table.new.self c.places.inside.ledger
+both : (c : goal.After-install) → BothInvariants c.shade_embryo.new.self c.install.new.self c.move_to_table.new.self c.holdings.inside.ledger
 both c =
     let q = c.shade_embryo.new.self in
-    let h = c.places.inside in
+    let h = c.holdings.inside in
     let w = (the_view h).world in
     let begun = q.begun.value.world in
     let s = c.args.listener.now in
@@ -58,8 +58,8 @@ both c =
     let fd = c.args.fd in
     let f = c.unwrap-embryo.result in
     let e = c.shade_embryo.ensures in
-    let was = stood q h c.places.view_is c.places.invariant e.kept in
-    let back = sym (ap (λ (t : HoldingsView). t.world) c.places.view_is ∙ ap (λ (o : Collector). o.places.world) e.frame ∙ ap (λ (t : StoreView). t.world) c.self.view_is) in
+    let was = stood q h c.holdings.view_is c.holdings.invariant e.kept in
+    let back = sym (ap (λ (t : HoldingsView). t.world) c.holdings.view_is ∙ ap (λ (o : Collector). o.holdings.world) e.frame ∙ ap (λ (t : StoreView). t.world) c.self.view_is) in
     let x = embryo-taken w s f c.dequeue.result c.unwrap-embryo.ensures c.dequeue.ensures.some in
     let there = process-there w pid (ap not (subst (λ (v : World). IsTrue (map.contains_key v.processes pid)) back c.requires.there)) in
     let free = subst (λ (v : World). table_at v pid fd ≡ None) back c.requires.free in
@@ -67,8 +67,8 @@ both c =
     let low = below-most w pid fd (process_at w pid) was.0.within there (subst (λ (v : World). IsBelowLimit v pid fd) back c.requires.limit (process_at w pid) there) in
     let files = c.move_to_table.ensures ∙ ap (with_moved_ref Backlog f) c.dequeue.ensures.rest ∙ moved-is Backlog f _ in
     let spared = subst (λ (o : Collector). NotBegunGarbage (pass_of o.progress.stage o.begun.value.world o.progress.looked) s) (sym e.frame) (subst (λ (t : StoreView). NotBegunGarbage t.pass s) (sym c.self.view_is) c.requires.spared) in
-    let shaded = subst (λ (o : Collector). MarksAll (λ g. slice_get (backlog_at o.places.world s) 0 ≡ Some g) o q) (sym e.frame) e.marked in
-    let marked = subst (λ (t : HoldingsView). MarksAll (λ g. slice_get (backlog_at t.world s) 0 ≡ Some g) q (record q { places = t })) (sym c.places.view_is) shaded in
+    let shaded = subst (λ (o : Collector). MarksAll (λ g. slice_get (backlog_at o.holdings.world s) 0 ≡ Some g) o q) (sym e.frame) e.marked in
+    let marked = subst (λ (t : HoldingsView). MarksAll (λ g. slice_get (backlog_at t.world s) 0 ≡ Some g) q (record q { holdings = t })) (sym c.holdings.view_is) shaded in
     let stray : (g : ℕ) → slice_get (backlog_at w s) 0 ≡ Some g → is_running q.progress.stage ≡ true → ¬ (Garbage begun g) = λ g is run. spared_running q.progress.stage begun q.progress.looked g run (held_spared q.progress.looked s g was.1 (embryo_held w s g (first_taken (backlog_at w s) g is)) spared) in
     let first : slice_get (backlog_at w s) 0 ≡ Some f = ap (λ xs. slice_get xs 0) (subst (λ o. IfSome o (λ g. backlog_at w s ≡ g ∷ drop 1 (backlog_at w s))) c.unwrap-embryo.ensures c.dequeue.ensures.some) in
     let v = with_socket w s dequeued in
@@ -77,8 +77,8 @@ both c =
     (kept_tables (install v pid fd f) refl refl (λ t. moves_install begun v pid fd f (stray f first t)) (λ _. covers_install begun v pid fd f (is_marked h.files.marks) (below q.progress.visited) free)
     (kept_socket s dequeued (λ _. moves_dequeued begun w s) (λ t. covers_dequeued begun w s (is_marked h.files.marks) (below q.progress.visited) (marked t) (λ g is. stray g is (marking_runs q.progress.stage t))) was.1)))
 
-pub invariant_of-places : goal.invariant_of-places
-invariant_of-places c = (both c).0
+pub invariant_of-holdings : goal.invariant_of-holdings
+invariant_of-holdings c = (both c).0
 
 pub invariant_of-self : goal.invariant_of-self
 invariant_of-self c = (both c).1

@@ -20,28 +20,28 @@ use Rattle.af_collect.proofs.StoreInvariant.{BothInvariants, both-same, seen-mov
 use Rattle.af_collect.proofs.store.Store.take_msg.Goals as goal
 
 pub receive_all-requires-clause-there : goal.receive_all-requires-clause-there
-receive_all-requires-clause-there c = (receives-within c.self.inside.parts c.places.inside _ c.places.view_is c.self.view_is c.args.socket.now c.args.max c.args.pid c.args.fds.now c.requires.can).1
+receive_all-requires-clause-there c = (receives-within c.self.inside.collector c.holdings.inside _ c.holdings.view_is c.self.view_is c.args.socket.now c.args.max c.args.pid c.args.fds.now c.requires.can).1
 
 pub receive_all-requires-clause-fits : goal.receive_all-requires-clause-fits
-receive_all-requires-clause-fits c = files-fit c.self.inside.parts c.places.inside _ c.places.view_is c.self.view_is c.args.socket.now c.args.max c.args.pid c.args.fds.now c.requires.can
-    c.places.invariant _ (ap (λ v. v.counts) c.in_ok-take.ensures.ok) _ (c.attached-attached.ensures.value ∙ ap (λ t. t.message.attached) c.in_ok-take.ensures.taken) c.attached-attached.ensures.bound
+receive_all-requires-clause-fits c = files-fit c.self.inside.collector c.holdings.inside _ c.holdings.view_is c.self.view_is c.args.socket.now c.args.max c.args.pid c.args.fds.now c.requires.can
+    c.holdings.invariant _ (ap (λ v. v.counts) c.in_ok-take.ensures.ok) _ (c.attached-attached.ensures.value ∙ ap (λ t. t.message.attached) c.in_ok-take.ensures.taken) c.attached-attached.ensures.bound
 
 pub receive_all-requires-clause-queued : goal.receive_all-requires-clause-queued
 receive_all-requires-clause-queued c =
-    let h = c.places.inside in
+    let h = c.holdings.inside in
     let w = (the_view h).world in
-    let r = receives-within c.self.inside.parts c.places.inside _ c.places.view_is c.self.view_is c.args.socket.now c.args.max c.args.pid c.args.fds.now c.requires.can in
+    let r = receives-within c.self.inside.collector c.holdings.inside _ c.holdings.view_is c.self.view_is c.args.socket.now c.args.max c.args.pid c.args.fds.now c.requires.can in
     let taken = c.in_ok-take.ensures.taken in
     let user = c.user.ensures ∙ ap (λ t. t.message.user) taken in
     let attached = c.attached-attached.ensures.value ∙ ap (λ t. t.message.attached) taken in
     let kept = ap (λ (v : FilesView). kept_of v.counts h.ledger) c.in_ok-take.ensures.ok in
-    subst (λ (m : ℕ × List ℕ × Tally). CanDropAll m.0 m.1 m.2) (λ i. (sym user i, sym attached i, sym kept i)) (can-drop-received w c.args.socket.now c.args.max (kept_of h.files.counts h.ledger) c.places.invariant c.requires.can.some r.0)
+    subst (λ (m : ℕ × List ℕ × Tally). CanDropAll m.0 m.1 m.2) (λ i. (sym user i, sym attached i, sym kept i)) (can-drop-received w c.args.socket.now c.args.max (kept_of h.files.counts h.ledger) c.holdings.invariant c.requires.can.some r.0)
 
 -- The ledger in the end.
-left : (c : goal.After-shade_taken) → let k = kept_of c.places.inside.files.counts c.places.inside.ledger in let m = received_at (the_view c.places.inside).world c.args.socket.now c.args.max in
+left : (c : goal.After-shade_taken) → let k = kept_of c.holdings.inside.files.counts c.holdings.inside.ledger in let m = received_at (the_view c.holdings.inside).world c.args.socket.now c.args.max in
     kept_of c.shade_taken.new.files.counts c.receive_all.new.ledger ≡ without_refs (Queue m.user) m.attached (counted k c.args.fds.now m.attached)
 left c =
-    let h = c.places.inside in
+    let h = c.holdings.inside in
     let taken = c.in_ok-take.ensures.taken in
     let user = c.user.ensures ∙ ap (λ t. t.message.user) taken in
     let attached = c.attached-attached.ensures.value ∙ ap (λ t. t.message.attached) taken in
@@ -49,10 +49,10 @@ left c =
     ∙ (λ i. without_refs (Queue (user i)) (attached i) (counted (kept_of (c.in_ok-take.ensures.ok i).counts h.ledger) c.args.fds.now (attached i)))
 
 -- The world in the end.
-received : (c : goal.After-shade_taken) → let w = (the_view c.places.inside).world in let taken = taken_at w c.args.socket.now c.args.max in
-    (the_view (record c.places.inside { procs = c.receive_all.new.procs; files = c.shade_taken.new.files; ledger = c.receive_all.new.ledger })).world ≡ install_all (with_queue w c.args.socket.now taken.rest) c.args.pid (zip c.args.fds.now taken.attached)
+received : (c : goal.After-shade_taken) → let w = (the_view c.holdings.inside).world in let taken = taken_at w c.args.socket.now c.args.max in
+    (the_view (record c.holdings.inside { procs = c.receive_all.new.procs; files = c.shade_taken.new.files; ledger = c.receive_all.new.ledger })).world ≡ install_all (with_queue w c.args.socket.now taken.rest) c.args.pid (zip c.args.fds.now taken.attached)
 received c =
-    let h = c.places.inside in
+    let h = c.holdings.inside in
     let w = (the_view h).world in
     let s = c.args.socket.now in
     let m = received_at w s c.args.max in
@@ -67,36 +67,36 @@ received c =
     world-is _ (with_socket v s (received_from c.args.max)) processes files next c.receive_all.ensures.next users ∙ taken_queue v s c.args.max
     ∙ sym (install-filled (with_queue w s t.rest) c.args.pid (zip c.args.fds.now t.attached))
 
-both : (c : goal.After-shade_taken) → BothInvariants c.self.inside.parts c.receive_all.new.procs c.shade_taken.new.files c.receive_all.new.ledger
+both : (c : goal.After-shade_taken) → BothInvariants c.self.inside.collector c.receive_all.new.procs c.shade_taken.new.files c.receive_all.new.ledger
 both c =
-    let p = c.self.inside.parts in
-    let h = c.places.inside in
+    let p = c.self.inside.collector in
+    let h = c.holdings.inside in
     let w = (the_view h).world in
     let k = kept_of h.files.counts h.ledger in
     let s = c.args.socket.now in
     let max = c.args.max in
     let pid = c.args.pid in
     let fds = c.args.fds.now in
-    let was = stood p h c.places.view_is c.places.invariant c.self.invariant in
-    let r = receives-within c.self.inside.parts c.places.inside _ c.places.view_is c.self.view_is c.args.socket.now c.args.max c.args.pid c.args.fds.now c.requires.can in
+    let was = stood p h c.holdings.view_is c.holdings.invariant c.self.invariant in
+    let r = receives-within c.self.inside.collector c.holdings.inside _ c.holdings.view_is c.self.view_is c.args.socket.now c.args.max c.args.pid c.args.fds.now c.requires.can in
     let t = taken_at w s max in
     let files = c.attached-attached.ensures.value ∙ ap (λ o. o.message.attached) c.in_ok-take.ensures.taken in
     let before = ap (λ v. v.marks) c.receive_all.ensures.rest ∙ ap (λ v. v.marks) c.in_ok-take.ensures.ok in
     let marks = ap (λ v. v.marks) c.shade_taken.ensures ∙ (λ i. shaded_in p.progress.stage (files i) (before i)) in
     both-same _ (install_all (with_queue w s t.rest) pid (zip fds t.attached)) _ _ _ _ (received c) (left c) marks
     (exact-same _ _ _ _ (install-filled (with_queue w s t.rest) pid (zip fds t.attached)) refl (exact-received w s max k was.0 c.requires.can.some r.0 pid fds r.1 r.2))
-    (kept_taken was.0 s max r.0 p.progress.looked pid fds (spared-within c.self.inside.parts c.places.inside _ c.places.view_is c.self.view_is c.args.socket.now c.args.max c.args.pid c.args.fds.now c.requires.can) r.1 r.2 was.1)
+    (kept_taken was.0 s max r.0 p.progress.looked pid fds (spared-within c.self.inside.collector c.holdings.inside _ c.holdings.view_is c.self.view_is c.args.socket.now c.args.max c.args.pid c.args.fds.now c.requires.can) r.1 r.2 was.1)
 
-pub invariant_of-places-2 : goal.invariant_of-places-2
-invariant_of-places-2 c = (both c).0
+pub invariant_of-holdings-2 : goal.invariant_of-holdings-2
+invariant_of-holdings-2 c = (both c).0
 
 pub invariant_of-self-2 : goal.invariant_of-self-2
 invariant_of-self-2 c = (both c).1
 
 pub returns-clause-world : goal.returns-clause-world
 returns-clause-world c =
-    let p = c.self.inside.parts in
-    let h = c.places.inside in
+    let p = c.self.inside.collector in
+    let h = c.holdings.inside in
     let since = ap (λ v. v.since) c.shade_taken.ensures ∙ ap (λ v. v.since) c.receive_all.ensures.rest ∙ ap (λ v. v.since) c.in_ok-take.ensures.ok in
     (λ i. shown p (record { world = received c i; rows = c.receive_all.ensures.rows i; message_room = c.shade_taken.new.files.message_room; marks = c.shade_taken.new.files.marks; since = since i }))
-    ∙ seen-moved p h _ (λ v. let t = taken_at v c.args.socket.now c.args.max in install_all (with_queue v c.args.socket.now t.rest) c.args.pid (zip c.args.fds.now t.attached)) c.shade_taken.new.files.marks c.shade_taken.new.files.message_room c.places.view_is c.self.view_is
+    ∙ seen-moved p h _ (λ v. let t = taken_at v c.args.socket.now c.args.max in install_all (with_queue v c.args.socket.now t.rest) c.args.pid (zip c.args.fds.now t.attached)) c.shade_taken.new.files.marks c.shade_taken.new.files.message_room c.holdings.view_is c.self.view_is

@@ -1,0 +1,19 @@
+use Rattle.std.proofs.Common.{ap, sym, subst, ◌∙◌}
+use Rattle.af_mark.specs.MarksView.{MarksView}
+use Rattle.af_collect.specs.Keeping.{PassInvariant}
+use Rattle.af_collect.specs.declared.collector.Collector.{Collector}
+use Rattle.af_collect.specs.declared.progress.Stage.TheVariants.{Sweeping}
+use Rattle.af_collect.proofs.PassChanges.{kept_finish}
+use Rattle.af_collect.proofs.collector.Collector.mark_unit.Goals as goal
+
+-- All files are visited and none is grey: so marking ends.
+pub returns-clause-kept : goal.returns-clause-kept
+returns-clause-kept c =
+    let now = c.args.self.now in
+    let r = c.requires in
+    let p = c.scan.new.self in
+    let none = c.scan.ensures.none c.if-scan.false in
+    let visited = sym (ap (λ (m : MarksView). m.bound) c.files.ensures.marks) ∙ sym c.bound.ensures ∙ sym c.self.view_is in
+    subst (λ n. PassInvariant p.holdings.world p.begun.value.world p.holdings.marks (record p.progress { stage = Sweeping; visited = n })) visited
+    (subst (λ (p : Collector). PassInvariant p.holdings.world p.begun.value.world p.holdings.marks (record p.progress { stage = Sweeping; visited = p.holdings.marks.bound })) (sym none.0)
+    (kept_finish now.holdings.marks now.progress r.sound.whole r.marking c.in_default.ensures.none none.1 r.kept))

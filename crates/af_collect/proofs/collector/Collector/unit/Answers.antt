@@ -1,0 +1,36 @@
+use Rattle.std.proofs.Common.{◌≡◌, ◌<◌, ℕ, true, ap, sym, subst, ◌∙◌}
+use Rattle.af_base.specs.Reached.{IsGarbageCount}
+use Rattle.af_collect.specs.Purged.{ArePurged}
+use Rattle.af_mark.specs.MarksView.{MarksView, is_marked, knows}
+use Rattle.af_collect.proofs.PassChanges.{counted_all, none_marked}
+use Rattle.af_collect.proofs.EmptiedSockets.{purged_none}
+use Rattle.af_collect.proofs.collector.Collector.unit.Goals as goal
+use Rattle.af_collect.proofs.collector.Collector.unit.Goals.{then-is_marking+else-units-gt0, else-is_marking}
+
+-- Marking purges nothing.
+pub returns-then-units-gt0-clause-purged : goal.returns-then-units-gt0-clause-purged
+returns-then-units-gt0-clause-purged c =
+    let now = c.args.self.now in
+    let n = c.mark_unit-units.result in
+    subst (λ s. ArePurged now.begun.value.world now.holdings.world s.world n) (sym c.mark_unit-units.ensures.holdings) (purged_none now.holdings.world n c.requires.sound.settled)
+
+-- Where marking has ended, its begin is the same still.
+pub returns-clause-counted : goal.returns-clause-counted
+returns-clause-counted c = λ over.
+    let begun : c.if-is_marking.self.begun ≡ c.args.self.now.begun = elim c.if-is_marking.branch [
+      | then-is_marking+else-units-gt0 w ↦ ap (λ p. p.begun) w.self-is ∙ w.mark_unit-units.ensures.begun
+      | else-is_marking w ↦ ap (λ p. p.begun) w.self-is
+    ] in
+    subst (λ s. IsGarbageCount s.value.world c.sweep_unit.new.self.progress.reclaimed) begun (c.sweep_unit.ensures.counted over)
+
+-- Where all are marked nothing is purged.
+pub returns-then-are_marked-clause-purged : goal.returns-then-are_marked-clause-purged
+returns-then-are_marked-clause-purged c = purged_none c.args.self.now.holdings.world 0 c.requires.sound.settled
+
+-- No garbage of the begin is live.
+pub returns-then-are_marked-clause-gone : goal.returns-then-are_marked-clause-gone
+returns-then-are_marked-clause-gone c = λ _. none_marked c.requires.running (subst (λ (m : MarksView). (f : ℕ) → knows m f ≡ true → f < m.bound → is_marked m f ≡ true) c.files.ensures.marks (c.are_marked.ensures c.if-are_marked.true)) c.requires.kept
+
+-- And its sockets were counted.
+pub returns-then-are_marked-clause-counted : goal.returns-then-are_marked-clause-counted
+returns-then-are_marked-clause-counted c = λ _. counted_all c.requires.running (none_marked c.requires.running (subst (λ (m : MarksView). (f : ℕ) → knows m f ≡ true → f < m.bound → is_marked m f ≡ true) c.files.ensures.marks (c.are_marked.ensures c.if-are_marked.true)) c.requires.kept) c.requires.kept

@@ -1,0 +1,85 @@
+use Rattle.std.proofs.Common.{◌≤◌, ◌+◌, ◌-◌, arith, refl, subst, ◌∙◌}
+use Rattle.af_base.specs.Reached.{IsGarbageCount}
+use Rattle.af_collect.specs.Purged.{ArePurged}
+use Rattle.af_collect.proofs.PassChanges.{counted_all, none_tabled}
+use Rattle.af_collect.proofs.EmptiedSockets.{purged_join, purged_more, purged_none}
+use Rattle.af_collect.proofs.collector.Collector.units.Goals as goal
+
+-- At first nothing was done.
+pub loop-left-init : goal.loop-left-init
+loop-left-init c =
+    let now = c.args.self.now in
+    let r = c.requires in
+    let budget = c.args.budget in
+    record {
+      kept = r.kept;
+      running = r.running;
+      sound = r.sound;
+      rows = refl;
+      since = refl;
+      begun = refl;
+      few = omega arith;
+      purged = purged_none now.holdings.world (budget - budget) r.sound.settled;
+      looked = refl;
+    }
+
+-- Some units more purge as many files more at most.
+pub loop-left-preserved : goal.loop-left-preserved
+loop-left-preserved c =
+    let first = c.args.self.now.holdings.world in
+    let before = c.loop-left.self.holdings.world in
+    let after = c.unit-units.new.self.holdings.world in
+    let budget = c.args.budget in
+    let left = c.loop-left.left in
+    let i = c.loop-left.invariant in
+    let u = c.unit-units.ensures in
+    let n = c.unit-units.result in
+    let few = i.few in
+    let low = u.few in
+    let so_far = i.looked in
+    let further = u.looked in
+    let some = subst (λ s. ArePurged s.value.world before after n) i.begun u.purged in
+    let adds : (budget - left) + n ≤ budget - (left - n) = omega (arith, few, low) in
+    record {
+      kept = u.kept;
+      running = u.running;
+      sound = u.sound;
+      rows = u.rows ∙ i.rows;
+      since = u.since ∙ i.since;
+      begun = u.begun ∙ i.begun;
+      few = omega (arith, few, low);
+      purged = purged_more first after ((budget - left) + n) (budget - (left - n)) adds (purged_join first before after (budget - left) n i.purged some);
+      looked = omega (arith, so_far, further, few, low);
+    }
+
+-- The pass is over, and has emptied at most as many as the budget.
+pub returns-then-units-eq0-clause-purged : goal.returns-then-units-eq0-clause-purged
+returns-then-units-eq0-clause-purged c =
+    let first = c.args.self.now.holdings.world in
+    let before = c.loop-left.self.holdings.world in
+    let after = c.unit-units.new.self.holdings.world in
+    let budget = c.args.budget in
+    let left = c.loop-left.left in
+    let i = c.loop-left.invariant in
+    let n = c.unit-units.result in
+    let few = i.few in
+    let low = c.unit-units.ensures.few in
+    let some = subst (λ s. ArePurged s.value.world before after n) i.begun c.unit-units.ensures.purged in
+    purged_more first after ((budget - left) + n) budget (omega (arith, few, low)) (purged_join first before after (budget - left) n i.purged some)
+
+-- The begin is the same still.
+pub returns-then-units-eq0-clause-counted : goal.returns-then-units-eq0-clause-counted
+returns-then-units-eq0-clause-counted c = λ _.
+    subst (λ s. IsGarbageCount s.value.world c.unit-units.new.self.progress.reclaimed) c.loop-left.invariant.begun (c.unit-units.ensures.counted c.if-units-eq0.true)
+
+-- Where nothing is in flight nothing is purged.
+pub returns-then-is_calm-clause-purged : goal.returns-then-is_calm-clause-purged
+returns-then-is_calm-clause-purged c = purged_none c.args.self.now.holdings.world c.args.budget c.requires.sound.settled
+
+-- A table holds each file, so no garbage of the begin is live.
+pub returns-then-is_calm-clause-gone : goal.returns-then-is_calm-clause-gone
+returns-then-is_calm-clause-gone c = λ _. none_tabled c.requires.running (c.is_calm.ensures c.if-is_calm.true) c.requires.kept
+
+-- And its sockets were counted.
+pub returns-then-is_calm-clause-counted : goal.returns-then-is_calm-clause-counted
+returns-then-is_calm-clause-counted c = λ _. counted_all c.requires.running (none_tabled c.requires.running (c.is_calm.ensures c.if-is_calm.true) c.requires.kept) c.requires.kept
