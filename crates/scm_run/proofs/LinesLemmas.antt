@@ -6,6 +6,7 @@ use Rattle.std.specs.Str.Lines.{lines, lines_of_parts, strip_carriage_return}
 use Rattle.std.proofs.lemmas.List.{flat_map_more, take_at, drop_more, map-append, length-map}
 use Rattle.std.proofs.lemmas.List.Splits.{slice_split_at, slice_split_none}
 use Rattle.std.proofs.lemmas.List.Elements.{All-append, All-nil, All-cons, All-from_get_or}
+use Rattle.std.proofs.lemmas.Bool.{eqb-true}
 use Rattle.std.proofs.lemmas.Grind.{common_steps}
 use Rattle.memchr.specs.Find.{IsFirstByte, is_byte}
 use Rattle.scm_lines.specs.Lines.{line_of, ◌>>=◌}
@@ -104,10 +105,6 @@ line_at taken whole rest more n cut counted =
 
 -- ---- a line that is too long
 
--- A byte that compares equal to a line feed is one.
-is_ten : (b : ℕ) → (b == 10) ≡ true → b ≡ 10
-is_ten b e = grind (arith, common_steps)
-
 -- The bytes before the first line feed, if there is one.
 pub first_cut : (bs : List ℕ) → (x : List ℕ) × (NoFeed x × ((bs ≡ x) ⊎ ((r : List ℕ) × (bs ≡ x ++ 10 ∷ r))))
 first_cut [] = ([], (All-nil (λ c. (c == 10) ≡ false), inl refl))
@@ -115,7 +112,7 @@ first_cut (b ∷ bs) = by_test (b == 10) refl (first_cut bs)
   where
     by_test : (t : Bool) → (b == 10) ≡ t → (x : List ℕ) × (NoFeed x × ((bs ≡ x) ⊎ ((r : List ℕ) × (bs ≡ x ++ 10 ∷ r))))
         → (x : List ℕ) × (NoFeed x × ((b ∷ bs ≡ x) ⊎ ((r : List ℕ) × (b ∷ bs ≡ x ++ 10 ∷ r))))
-    by_test true e later = ([], (All-nil (λ c. (c == 10) ≡ false), inr (bs, ap (λ (c : ℕ). c ∷ bs) (is_ten b e))))
+    by_test true e later = ([], (All-nil (λ c. (c == 10) ≡ false), inr (bs, ap (λ (c : ℕ). c ∷ bs) (eqb-true b 10 e))))
     by_test false e (x, (none, inl h)) = (b ∷ x, (All-cons (λ c. (c == 10) ≡ false) b x e none, inl (ap (λ l. b ∷ l) h)))
     by_test false e (x, (none, inr (r, h))) = (b ∷ x, (All-cons (λ c. (c == 10) ≡ false) b x e none, inr (r, ap (λ l. b ∷ l) h)))
 
@@ -199,6 +196,6 @@ NoFeed-all bytes nowhere = All-from_get_or (λ b. (b == 10) ≡ false) bytes 0 (
 pub around : (bytes : List ℕ) (at : ℕ) → IsFirstByte (is_byte 10) bytes (Some at) → bytes ≡ ended_by_feed (take at bytes) ++ drop (at + 1) bytes
 around bytes at (first, here) =
     let high : at < length bytes = first.high in
-    let ten : get_or bytes at 0 ≡ 10 = is_ten (get_or bytes at 0) here in
+    let ten : get_or bytes at 0 ≡ 10 = eqb-true (get_or bytes at 0) 10 here in
     sym (take-append-drop at bytes) ∙ ap (λ l. take at bytes ++ l) (drop_more bytes at 0 high ∙ ap (λ (b : ℕ). b ∷ drop (at + 1) bytes) ten)
     ∙ sym (append_assoc (take at bytes) (10 ∷ []) (drop (at + 1) bytes))

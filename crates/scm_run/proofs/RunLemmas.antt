@@ -9,7 +9,7 @@ use Rattle.std.proofs.lemmas.List.{take_at, take_all, map-append, length-map}
 use Rattle.scm_run.specs.Watched.{AppendsFront}
 use Rattle.scm_lines.specs.Versions.{read_in}
 use Rattle.scm_run.specs.Script.{FaultAt, LineText, NoFeed, Point, RanFirst, RanToEnd, RunText, StopsBy, Tells, Wrote, ended_by_feed, first_point, is_read_fault, RanAsRead}
-use Rattle.scm_run.specs.Gather.{Settles, WritesFront}
+use Rattle.scm_run.specs.Gather.{WritesBeforeFault, WritesFront}
 use Rattle.scm_run.specs.Line.{LineDone, LineStops}
 use Rattle.scm_run.specs.Progress.{FaultIn, Halts, Ran, RanAll, RunProgress, Runs, TooLong, Waits, may_fit, nothing_read}
 use Rattle.scm_run.specs.declared.fault.RunFault.{RunFault}
@@ -64,18 +64,18 @@ still : (gathered : List ℕ) (now : Option (List ℕ)) → WritesFront gathered
 still gathered now = record { front = []; split = refl; wrote = Appends-nil now }
 
 -- A fault is what it says once the gathered text is written, and the writer's where a part is.
-waits_settled : (says : Option (List ℕ) → RunFault → Type 0) (before mid after : Option (List ℕ)) (gathered : List ℕ) (f answer : RunFault)
+waits_written : (says : Option (List ℕ) → RunFault → Type 0) (before mid after : Option (List ℕ)) (gathered : List ℕ) (f answer : RunFault)
     → Waits says before mid gathered f → ((answer ≡ f) × Appends mid after gathered) ⊎ ((answer ≡ fault.Write) × AppendsFront mid after gathered) → says after answer
-waits_settled says before mid after gathered f answer w (inl (e, a)) = subst (says after) (sym e) (w.whole after (Appends-trans before mid after w.written gathered w.wrote a))
-waits_settled says before mid after gathered f answer w (inr (e, a)) = subst (says after) (sym e) (w.part after (Appends-front before mid after w.written gathered w.wrote a))
+waits_written says before mid after gathered f answer w (inl (e, a)) = subst (says after) (sym e) (w.whole after (Appends-trans before mid after w.written gathered w.wrote a))
+waits_written says before mid after gathered f answer w (inr (e, a)) = subst (says after) (sym e) (w.part after (Appends-front before mid after w.written gathered w.wrote a))
 
 -- The answer to a fault once the gathered text is written.
-pub settled : (says : Option (List ℕ) → RunFault → Type 0) (before mid after : Option (List ℕ)) (gathered : List ℕ) (f answer : RunFault)
-    → Halts says before mid gathered f → Settles f answer gathered mid after → says after answer
-settled says before mid after gathered (fault.Unreadable n) answer h s = waits_settled says before mid after gathered (fault.Unreadable n) answer h s
-settled says before mid after gathered fault.Read answer h s = absurd h
-settled says before mid after gathered fault.Write answer h (e, same) = subst (says after) (sym e) (subst (λ a. says a fault.Write) (sym same) h)
-settled says before mid after gathered fault.Memory answer h s = waits_settled says before mid after gathered fault.Memory answer h s
+pub halts_written : (says : Option (List ℕ) → RunFault → Type 0) (before mid after : Option (List ℕ)) (gathered : List ℕ) (f answer : RunFault)
+    → Halts says before mid gathered f → WritesBeforeFault f answer gathered mid after → says after answer
+halts_written says before mid after gathered (fault.Unreadable n) answer h s = waits_written says before mid after gathered (fault.Unreadable n) answer h s
+halts_written says before mid after gathered fault.Read answer h s = absurd h
+halts_written says before mid after gathered fault.Write answer h (e, same) = subst (says after) (sym e) (subst (λ a. says a fault.Write) (sym same) h)
+halts_written says before mid after gathered fault.Memory answer h s = waits_written says before mid after gathered fault.Memory answer h s
 
 -- A fault that says one thing says what follows from it.
 waits_as : (says tells : Option (List ℕ) → RunFault → Type 0) (before after : Option (List ℕ)) (gathered : List ℕ) (f : RunFault)

@@ -16,7 +16,7 @@ use Rattle.af_base.specs.Steps.{Outcome, answer, effect, got_at, needs_no_memory
 use Rattle.af_base.specs.Take.{has_files, joined, take_from}
 use Rattle.af_base.specs.Pass.{Begins, GoesOn, Idle, Machine, Pass, PassesWhole, Running, Slices}
 use Rattle.af_base.specs.Reached.{Garbage, IsGarbageCount}
-use Rattle.af_base.specs.Whole.{IsMessageWithin, IsSound, IsWithin}
+use Rattle.af_base.specs.Whole.{IsSound, IsWithin}
 use Rattle.af_base.specs.declared.errno.Errno.{Errno}
 use Rattle.af_base.specs.declared.errno.Errno.TheVariants.{ESRCH}
 use Rattle.af_base.specs.declared.events.Event.{Event}
@@ -32,12 +32,8 @@ use Rattle.af_base.proofs.PurgedWorlds.{slice-by}
 use Rattle.af_base.proofs.Elements.{Contains-first, Contains-later, Contains-none}
 use Rattle.af_base.proofs.Lookups.{none_some, some_same}
 use Rattle.af_base.proofs.SoundSteps.{NoneFits, none-fits}
-use Rattle.af_base.proofs.ReceivedFiles.{before, find-here, find-later, up_to}
+use Rattle.af_base.proofs.ReceivedFiles.{AreWithin, before, find-here, find-later, up_to}
 use Rattle.scm_run.specs.Text.{IsShort}
-
--- All messages of a queue are within the limits.
-abbrev AreWithin : List Message → Type 0
-AreWithin q = (m : Message) → Contains q m → IsMessageWithin m
 
 -- A message found in a queue is in it.
 found-within : (q : List Message) (m : Message) → find has_files q ≡ Some m → Contains q m

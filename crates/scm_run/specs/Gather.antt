@@ -22,7 +22,7 @@ MoveStops old new before after fault.Memory = WritesFront old new before after
 
 -- A fault is answered once what is gathered is written, and the writer's in its place where that
 -- fails; after the writer's nothing is written.
-abbrev pub Settles : RunFault → RunFault → List ℕ → Option (List ℕ) → Option (List ℕ) → Type 0
-Settles fault.Write answer gathered before after = (answer ≡ fault.Write) × (after ≡ before)
-Settles f answer gathered before after = ((answer ≡ f) × Appends before after gathered)
+abbrev pub WritesBeforeFault : RunFault → RunFault → List ℕ → Option (List ℕ) → Option (List ℕ) → Type 0
+WritesBeforeFault fault.Write answer gathered before after = (answer ≡ fault.Write) × (after ≡ before)
+WritesBeforeFault f answer gathered before after = ((answer ≡ f) × Appends before after gathered)
     ⊎ ((answer ≡ fault.Write) × AppendsFront before after gathered)

@@ -3,7 +3,7 @@ ghost use Rattle.std.specs.Prelude.{◌≡◌, ℕ, ◌≤◌, ◌+◌, [], Err,
 ghost use Rattle.std.specs.Prelude.{vec_len, false, is_err};
 ghost use Rattle.std.specs.Io.KnownBytes.{Appends};
 ghost use Rattle.scm_run.specs.Watched.{AppendsFront};
-ghost use Rattle.scm_run.specs.Gather.{MoveStops, Settles, WritesFront};
+ghost use Rattle.scm_run.specs.Gather.{MoveStops, WritesBeforeFault, WritesFront};
 ghost use Rattle.scm_run.specs.Script.{is_read_fault, is_write_fault};
 
 use crate::fault::RunFault;
@@ -53,9 +53,13 @@ pub fn make_room<W: Write>(text: &mut Vec<u8>, writer: &mut Watched<W>) -> Resul
 
 /// Writes what is gathered before a fault is answered. Returns that fault, or `Write` where this
 /// fails. After a fault of the writer it writes nothing.
-pub fn settle<W: Write>(text: &mut Vec<u8>, fault: RunFault, writer: &mut Watched<W>) -> RunFault
+pub fn write_before_fault<W: Write>(
+    text: &mut Vec<u8>,
+    fault: RunFault,
+    writer: &mut Watched<W>,
+) -> RunFault
     requires { writer.old.has_failed ≡ is_write_fault {A = ℕ} (Err fault) }
-    ensures settles { Settles fault result text.old.items (W.contents writer.old.inner)
+    ensures text { WritesBeforeFault fault result text.old.items (W.contents writer.old.inner)
         (W.contents writer.new.inner) }
     ensures write { writer.new.has_failed ≡ is_write_fault {A = ℕ} (Err result) }
     ensures no_read { is_read_fault {A = ℕ} (Err fault) ≡ false

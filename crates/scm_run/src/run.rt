@@ -8,7 +8,7 @@ ghost use Rattle.scm_run.specs.Script.{FaultAt, NoFeed, RanToEnd, StopsBy, Wrote
 ghost use Rattle.scm_run.specs.Script.{is_read_fault, is_write_fault};
 
 use crate::fault::RunFault;
-use crate::gather::{settle, write_out};
+use crate::gather::{write_before_fault, write_out};
 use crate::line::do_line;
 use crate::watched::Watched;
 use af_steps::Engine;
@@ -174,8 +174,9 @@ impl ScriptRun {
         }
     }
 
-    /// Takes the next bytes of the script: does each line whose line feed is among them.
-    fn take<W: Write>(
+    /// Does each line whose line feed is among these next bytes of the script, and keeps the bytes
+    /// after the last one.
+    fn do_lines<W: Write>(
         &mut self,
         alloc: Global,
         bytes: &[u8],
@@ -200,7 +201,7 @@ impl ScriptRun {
     }
 
     /// Does the last line, where it has no line feed.
-    fn last_line<W: Write>(
+    fn do_last_line<W: Write>(
         &mut self,
         alloc: Global,
         writer: &mut Watched<W>,
@@ -251,9 +252,9 @@ impl ScriptRun {
         ensures write { writer.new.has_failed ≡ is_write_fault result }
         ensures no_read { is_read_fault result ≡ false }
     {
-        match self.take(alloc, chunk, writer) {
+        match self.do_lines(alloc, chunk, writer) {
             Ok(()) => Ok(write_out(&mut self.text, writer)?),
-            Err(fault) => Err(settle(&mut self.text, fault, writer)),
+            Err(fault) => Err(write_before_fault(&mut self.text, fault, writer)),
         }
     }
 
@@ -270,12 +271,12 @@ impl ScriptRun {
         ensures write { writer.new.has_failed ≡ is_write_fault result }
         ensures no_read { is_read_fault result ≡ false }
     {
-        match self.last_line(alloc, writer) {
+        match self.do_last_line(alloc, writer) {
             Ok(()) => {
                 write_out(&mut self.text, writer)?;
                 Ok(self.events)
             }
-            Err(fault) => Err(settle(&mut self.text, fault, writer)),
+            Err(fault) => Err(write_before_fault(&mut self.text, fault, writer)),
         }
     }
 

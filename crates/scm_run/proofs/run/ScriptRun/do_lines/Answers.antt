@@ -4,7 +4,7 @@ use Rattle.scm_run.specs.Progress.{Ran}
 use Rattle.scm_run.specs.Script.{ended_by_feed}
 use Rattle.scm_run.proofs.LinesLemmas.{NoFeed-all, around}
 use Rattle.scm_run.proofs.RunLemmas.{halts_longer, keep_stops}
-use Rattle.scm_run.proofs.run.ScriptRun.take.Goals as goal
+use Rattle.scm_run.proofs.run.ScriptRun.do_lines.Goals as goal
 
 pub returns-in_err-end_line-clause-err : goal.returns-in_err-end_line-clause-err
 returns-in_err-end_line-clause-err g c =

@@ -1,7 +1,7 @@
 -- The bytes before the rest were taken, and no write has failed.
 use Rattle.std.proofs.Common.{◌≡◌, ℕ, List, ◌++◌, Option, false, length}
 use Rattle.scm_run.specs.Progress.{Ran}
-use Rattle.scm_run.proofs.run.ScriptRun.take.Given as goal
+use Rattle.scm_run.proofs.run.ScriptRun.do_lines.Given as goal
 
 abbrev pub invariant-loop-at : goal.invariant-loop-at
 invariant-loop-at g l =

@@ -1,28 +1,28 @@
 use Rattle.std.proofs.Common.{rules, ◌≡◌, Err}
 use Rattle.std.specs.Io.KnownBytes.{Appends}
 use Rattle.scm_run.specs.Watched.{AppendsFront}
-use Rattle.scm_run.specs.Gather.{Settles}
+use Rattle.scm_run.specs.Gather.{WritesBeforeFault}
 use Rattle.scm_run.specs.Script.{FaultAt}
 use Rattle.scm_run.specs.declared.fault.RunFault.TheVariants.{Write}
-use Rattle.scm_run.proofs.RunLemmas.{all_out, all_part, settled}
+use Rattle.scm_run.proofs.RunLemmas.{all_out, all_part, halts_written}
 use Rattle.scm_run.proofs.run.ScriptRun.finish.Goals as goal
 
 pub returns-in_err-write_out-in-Ok-clause-err : goal.returns-in_err-write_out-in-Ok-clause-err
 returns-in_err-write_out-in-Ok-clause-err g c =
-    let st = c.last_line.new.self in
+    let st = c.do_last_line.new.self in
     let fault : c.from_residual.result ≡ Err Write = search rules in
-    let part : AppendsFront (g.W.Write.contents c.last_line.new.writer.inner) (g.W.Write.contents c.write_out.new.writer.inner) st.gathered = search rules in
+    let part : AppendsFront (g.W.Write.contents c.do_last_line.new.writer.inner) (g.W.Write.contents c.write_out.new.writer.inner) st.gathered = search rules in
     rw fault (λ taken before ran. all_part taken before _ _ st (c.in-Ok.ensures.ok taken before ran) part)
 
 pub returns-in_ok-write_out-in-Ok-clause-ok : goal.returns-in_ok-write_out-in-Ok-clause-ok
 returns-in_ok-write_out-in-Ok-clause-ok g c = λ taken before ran.
-    let st = c.last_line.new.self in
-    let wrote : Appends (g.W.Write.contents c.last_line.new.writer.inner) (g.W.Write.contents c.write_out.new.writer.inner) st.gathered = search rules in
+    let st = c.do_last_line.new.self in
+    let wrote : Appends (g.W.Write.contents c.do_last_line.new.writer.inner) (g.W.Write.contents c.write_out.new.writer.inner) st.gathered = search rules in
     let events : c.self.inside.events ≡ st.events = search rules in
     rw events (all_out taken before _ _ st (c.in-Ok.ensures.ok taken before ran) wrote)
 
 pub returns-in-Err-clause-err : goal.returns-in-Err-clause-err
 returns-in-Err-clause-err g c = λ taken before ran.
-    let st = c.last_line.new.self in
-    let settles : Settles c.in-Err.fault c.settle.result st.gathered (g.W.Write.contents c.last_line.new.writer.inner) (g.W.Write.contents c.settle.new.writer.inner) = search rules in
-    settled (FaultAt taken before) before _ _ st.gathered c.in-Err.fault c.settle.result (c.in-Err.ensures.err taken before ran) settles
+    let st = c.do_last_line.new.self in
+    let text : WritesBeforeFault c.in-Err.fault c.write_before_fault.result st.gathered (g.W.Write.contents c.do_last_line.new.writer.inner) (g.W.Write.contents c.write_before_fault.new.writer.inner) = search rules in
+    halts_written (FaultAt taken before) before _ _ st.gathered c.in-Err.fault c.write_before_fault.result (c.in-Err.ensures.err taken before ran) text

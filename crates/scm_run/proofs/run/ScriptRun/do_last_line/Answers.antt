@@ -2,7 +2,7 @@ use Rattle.std.proofs.Common.{rules, ◌≡◌, ◌<◌, ◌+◌, [], Err, lengt
 use Rattle.scm_run.specs.Line.{LineDone, LineStops}
 use Rattle.scm_run.specs.declared.fault.RunFault.TheVariants.{Memory}
 use Rattle.scm_run.proofs.RunLemmas.{finish_empty, finish_ok, finish_still, finish_stops}
-use Rattle.scm_run.proofs.run.ScriptRun.last_line.Goals as goal
+use Rattle.scm_run.proofs.run.ScriptRun.do_last_line.Goals as goal
 
 pub returns-then-is_empty-clause-ok : goal.returns-then-is_empty-clause-ok
 returns-then-is_empty-clause-ok g c = λ taken before ran.
