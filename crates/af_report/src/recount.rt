@@ -119,7 +119,7 @@ pub fn count(alloc: Global, engine: &Engine) -> Result<Option<Checked>, AllocErr
 }
 
 /// Writes the line of a check.
-fn line_of(alloc: Global, checked: &Checked) -> Result<String, AllocError>
+fn check_line(alloc: Global, checked: &Checked) -> Result<String, AllocError>
     ensures { IfOk result (λ line. string_bytes line ≡ check_text checked.now.0 checked.now.1) }
 {
     let files = checked.live();
@@ -138,6 +138,6 @@ pub fn check(alloc: Global, engine: &Engine) -> Result<Vec<u8>, AllocError>
     let Some(checked) = count(alloc, engine)? else {
         return b"check failed\n".to_vec(alloc);
     };
-    let line = line_of(alloc, &checked)?;
+    let line = check_line(alloc, &checked)?;
     Ok(line.into_bytes())
 }

@@ -1,5 +1,5 @@
 use Rattle.std.proofs.Common.{rules}
-use Rattle.af_report.proofs.recount.line_of.Goals as goal
+use Rattle.af_report.proofs.recount.check_line.Goals as goal
 
 pub returns : goal.returns
 returns c = rw (← c.live-files.ensures) (rw (← c.garbage-lost.ensures) (search rules))
