@@ -16,18 +16,16 @@ use Rattle.af_base.specs.Changes.{file_with, install, push_message, with_table}
 use Rattle.af_base.specs.Pass.{Purges, emptied}
 use Rattle.af_base.proofs.NothingInFlight.{all_tabled}
 use Rattle.af_base.proofs.Lookups.{none_some}
+use Rattle.af_base.proofs.PlaceMoves.{holds-there}
 use Rattle.af_base.proofs.Places.{carried-push}
 use Rattle.af_base.proofs.PurgeOrder.{from_emptied, to_emptied}
-use Rattle.af_base.proofs.SettledWorlds.{from_without, none_in, to_without}
+use Rattle.af_base.proofs.SettledWorlds.{from_without, to_without}
 use Rattle.af_base.proofs.AllowedSteps.{get-change_at}
 use Rattle.af_laws.specs.Reaching.{GroupsOfTheirOwnAreGarbage, InstallKeepsReached, NothingInFlightIsNoGarbage, PlacesKeepReached, PurgingKeepsReached, ReachedIsHeld, SendKeepsReached, SettlingKeepsReached}
 
 -- A socket that holds a file is live.
 pub holder_live : (w : World) (s f : ℕ) → Holds w s f → IsLive w s
-holder_live w s f h = by (map.get w.files s) h where
-  by : (o : Option File) → Contains (option_map_or contents o []) f → is_some o ≡ true
-  by None h = absurd (none_in f h)
-  by (Some x) h = refl
+holder_live w s f h = ap is_some (holds-there w s f h).1
 
 pub places_keep_reached : PlacesKeepReached
 places_keep_reached old new has _ (ByTable f t) = ByTable f (has.0 f t)

@@ -1,6 +1,6 @@
 -- The settled world is settled, and an unheld file may be freed first.
 use Rattle.std.proofs.Common.{◌≡◌, inl, inr, ℕ, Bool, true, false, not, ◌||◌, ◌&&◌, refl, sym, ap, ◌∙◌, subst, nat_eq}
-use Rattle.std.proofs.lemmas.Bool.{false≢true, eqb-true}
+use Rattle.std.proofs.lemmas.Bool.{and_from, and_parts, eqb-true, false≢true}
 use Rattle.af_base.specs.World.{World, IsLive}
 use Rattle.af_base.specs.Places.{InTable, Holds}
 use Rattle.af_base.specs.Unheld.{Goes, Settles, Unheld, without}
@@ -38,16 +38,6 @@ and_true : (b : Bool) → b ≡ (b && true)
 and_true true = refl
 and_true false = refl
 
--- Both values are true if they are together.
-both : (a b : Bool) → (a && b) ≡ true → (a ≡ true) × (b ≡ true)
-both true b e = (refl, e)
-both false b e = absurd (false≢true e)
-
--- They are together true if each is.
-each : (a b : Bool) → a ≡ true → b ≡ true → (a && b) ≡ true
-each true b d e = e
-each false b d e = d
-
 module _ (w new : World) (f : ℕ) (live : IsLive w f) (no_table : ¬ (InTable w f)) (no_holder : (s : ℕ) → ¬ (Holds w s f)) (s : Settles w new) where
   -- The world without f.
   abbrev rest : World
@@ -64,7 +54,7 @@ module _ (w new : World) (f : ℕ) (live : IsLive w f) (no_table : ¬ (InTable w
   -- Each other file that is freed is unheld without f.
   goes : (g : ℕ) → gone g ≡ true → Unheld rest g
   goes g e =
-      let h = both _ _ e in
+      let h = and_parts _ _ e in
       elim (goes_down w f live no_table no_holder g ((s.1 g).0 h.0)) [
         | inl d ↦ absurd (apart g d h.1)
         | inr u ↦ u
@@ -76,7 +66,7 @@ module _ (w new : World) (f : ℕ) (live : IsLive w f) (no_table : ¬ (InTable w
 
   -- It is freed.
   went : (g : ℕ) → Unheld rest g → gone g ≡ true
-  went g u = each _ _ ((s.1 g).1 (goes_up w f live no_table no_holder g u)) (differs g u)
+  went g u = and_from _ _ ((s.1 g).1 (goes_up w f live no_table no_holder g u)) (differs g u)
 
   -- The freed files are f and the others.
   same : (g : ℕ) → s.0 g ≡ (nat_eq f g || gone g)

@@ -8,7 +8,8 @@ use Rattle.std.specs.Cmp.{both_ways, nat_cmp_total, unsigned_tied}
 use Rattle.std.specs.FinMap as map
 use Rattle.std.specs.FinMap.{nat_cmp-IsAntisymmetric}
 use Rattle.std.proofs.lemmas.Bool.{eqb-true, false≢true, or_cases}
-use Rattle.std.proofs.lemmas.List.Elements.{All-cons, All-head, All-nil, All-tail}
+use Rattle.std.proofs.lemmas.List.Elements.{All-cons, All-contains, All-head, All-nil, All-tail}
+use Rattle.std.proofs.lemmas.Map.Views.{Contains-from_any}
 use Rattle.std.proofs.Math.Bool.{or-true}
 use Rattle.af_base.specs.declared.errno.Errno.{Errno}
 use Rattle.af_base.specs.declared.errno.Errno.TheVariants.{EBUSY, EIDLE, EINVAL}
@@ -31,28 +32,20 @@ use Rattle.af_base.proofs.Soundness.{settled-settles}
 use Rattle.af_laws.proofs.Chains.{same_number}
 use Rattle.af_laws.proofs.PlaceCounts.{garbage_counts_once}
 use Rattle.af_laws.proofs.Logs.{replies_determine}
-use Rattle.af_laws.proofs.WholePasses.{released, spared, spares_all}
+use Rattle.af_laws.proofs.WholePasses.{done_refused, released, spared, spares_all}
 use Rattle.af_laws.specs.Purging.{IsSlice, PassHasOneOutcome, PassIsOneSlice, SlicesAreAPass, SlicesSpareTheReached}
 
--- A pass that is done is not refused.
-done_refused : (pass count : ℕ) (e : Errno) → reply.Done pass count ≡ reply.Refused e → ⊥
-done_refused pass count e d = cc
-
--- Nor is a pass done that has work left.
+-- A pass that has work left is not done.
 done_working : (pass count : ℕ) → reply.Done pass count ≡ reply.Working → ⊥
 done_working pass count d = cc
 
--- Nor is what began refused.
+-- A pass that began is not refused.
 started_refused : (n : ℕ) (e : Errno) → reply.Started n ≡ reply.Refused e → ⊥
 started_refused n e d = cc
 
 -- A fact of all files of a list is one of each.
 among : (P : ℕ → Type 0) (f : ℕ) (xs : List ℕ) → All P xs → list_any (nat_eq f) xs ≡ true → P f
-among P f [] all e = absurd (false≢true e)
-among P f (x ∷ xs) all e = elim (or_cases (nat_eq f x) (list_any (nat_eq f) xs) e) [
-  | inl here ↦ subst P (sym (eqb-true f x here)) (All-head P x xs all)
-  | inr later ↦ among P f xs (All-tail P x xs all) later
-]
+among P f xs all e = All-contains P xs f all (Contains-from_any eqb-true f xs e)
 
 -- To empty what is not live changes nothing.
 emptied_dead : (t : ℕ → Bool) (w : World) → ((f : ℕ) → t f ≡ true → ¬ (IsLive w f)) → emptied t w ≡ w

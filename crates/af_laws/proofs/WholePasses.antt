@@ -95,7 +95,7 @@ pub pass_spares_the_reached : PassSparesTheReached
 pass_spares_the_reached old new r h = spares_by old.pass old new r h
 
 -- A pass that is done is not refused.
-done_refused : (pass count : ℕ) (e : Errno) → reply.Done pass count ≡ reply.Refused e → ⊥
+pub done_refused : (pass count : ℕ) (e : Errno) → reply.Done pass count ≡ reply.Refused e → ⊥
 done_refused pass count e d = cc
 
 -- A whole pass that is done leaves no garbage.
