@@ -15,7 +15,7 @@ use af_table::Process;
 
 /// Returns the lowest free descriptor of the process, for a new file; or why there is none.
 #[inline(always)]
-pub fn place_for_file(store: &Store, pid: Pid) -> Result<Fd, Errno>
+pub fn descriptor_for_file(store: &Store, pid: Pid) -> Result<Fd, Errno>
     ensures there { OnOk result (HasProcess store.now.world pid (process_at store.now.world pid)) }
     ensures lowest { IfOk result (λ fd.
         slice_get (free_numbers (process_at store.now.world pid)) 0 ≡ Some fd) }

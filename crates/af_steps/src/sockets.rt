@@ -7,7 +7,7 @@ ghost use Rattle.af_base.specs.Refusals.{on_listener};
 ghost use Rattle.af_steps.specs.Outcome.{Does, Refuses};
 
 use crate::engine::Engine;
-use crate::lookups::{place_for_file, socket_on};
+use crate::lookups::{descriptor_for_file, socket_on};
 use af_base::errno::Errno;
 use af_base::events::{Reply, SockType, State, Step};
 use af_base::ids::{Fd, Pid};
@@ -40,7 +40,7 @@ impl Engine {
             Does self.old pid (Step.Socket kind) (Reply.Fd fd) self.new) }
         ensures refused { IfErr result (λ e. Refuses self.old pid (Step.Socket kind) e self.new) }
     {
-        let fd = place_for_file(&self.store, pid)?;
+        let fd = descriptor_for_file(&self.store, pid)?;
         self.store.socket_at(kind, pid, fd)?;
         self.store.release();
         Ok(fd)

@@ -3,7 +3,7 @@ ghost use Rattle.std.specs.Prelude.{◌≡◌, IfErr, IfOk, OnOk};
 ghost use Rattle.af_steps.specs.Outcome.{Does, Refuses, RefusesStart, Starts};
 
 use crate::engine::Engine;
-use crate::lookups::place_for_file;
+use crate::lookups::descriptor_for_file;
 use af_base::errno::Errno;
 use af_base::events::{Reply, Step};
 use af_base::ids::{Fd, Pid, Uid};
@@ -35,7 +35,7 @@ impl Engine {
         ensures done { IfOk result (λ fd. Does self.old pid Step.Open (Reply.Fd fd) self.new) }
         ensures refused { IfErr result (λ e. Refuses self.old pid Step.Open e self.new) }
     {
-        let fd = place_for_file(&self.store, pid)?;
+        let fd = descriptor_for_file(&self.store, pid)?;
         self.store.open_at(pid, fd)?;
         self.store.release();
         Ok(fd)

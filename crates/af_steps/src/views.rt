@@ -11,7 +11,7 @@ ghost use Rattle.af_base.specs.Whole.{name_at};
 ghost use Rattle.af_steps.specs.FileInfo.{shown_of};
 
 use crate::engine::Engine;
-use crate::lookups::place_for_file;
+use crate::lookups::descriptor_for_file;
 use af_base::errno::Errno;
 use af_base::events::{SockType, State, Step};
 use af_base::ids::{Fd, FileRef, Ino, Pid, Uid};
@@ -133,7 +133,7 @@ impl Engine {
         ensures ok { OnOk result (refusal self.now.world pid Step.Open ≡ None) }
         ensures refused { IfErr result (λ e. refusal self.now.world pid Step.Open ≡ Some e) }
     {
-        place_for_file(&self.store, pid)?;
+        descriptor_for_file(&self.store, pid)?;
         Ok(())
     }
 
