@@ -67,7 +67,7 @@ impl Store {
         ensures looked { self.new.progress.looked ≤ self.old.progress.looked + budget }
         ensures rises { self.old.progress.looked ≤ self.new.progress.looked }
     {
-        if !self.collector.units(budget) {
+        if !self.collector.do_units(budget) {
             return None;
         }
         self.collector.progress.stage = Stage::Resting;
@@ -85,7 +85,7 @@ impl Store {
         ensures pass { self.new.pass ≡ Idle }
     {
         self.collector.begin();
-        while !self.collector.units(MAX_BUDGET) {}
+        while !self.collector.do_units(MAX_BUDGET) {}
         self.collector.progress.stage = Stage::Resting;
         self.collector.holdings.end_pass();
         self.collector.progress.reclaimed

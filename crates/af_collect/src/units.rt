@@ -44,7 +44,7 @@ impl Collector {
     /// Does at most as many units as the budget has. Returns whether the pass is over: then no
     /// garbage of its begin is left, and the number of reclaimed sockets is the number of those
     /// that were garbage.
-    pub fn units(&mut self, budget: u32) -> bool
+    pub fn do_units(&mut self, budget: u32) -> bool
         requires kept { KeepsPass self.old }
         requires running { is_running self.old.progress.stage ≡ true }
         requires sound { IsSound self.old.holdings.world }
@@ -70,7 +70,7 @@ impl Collector {
         }
         let mut left = budget;
         while left > 0 {
-            let units = self.unit(left);
+            let units = self.do_unit(left);
             if units == 0 {
                 return true;
             }
@@ -82,7 +82,7 @@ impl Collector {
     /// Does one unit, or two where a file is visited and scanned in one look and two are left.
     /// Returns how many, 0 where the pass is over.
     #[inline(always)]
-    fn unit(&mut self, left: u32) -> u32
+    fn do_unit(&mut self, left: u32) -> u32
         requires kept { KeepsPass self.old }
         requires running { is_running self.old.progress.stage ≡ true }
         requires sound { IsSound self.old.holdings.world }

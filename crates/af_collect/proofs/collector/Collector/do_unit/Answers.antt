@@ -4,8 +4,8 @@ use Rattle.af_collect.specs.Purged.{ArePurged}
 use Rattle.af_mark.specs.MarksView.{MarksView, is_marked, knows}
 use Rattle.af_collect.proofs.PassChanges.{counted_all, none_marked}
 use Rattle.af_collect.proofs.EmptiedSockets.{purged_none}
-use Rattle.af_collect.proofs.collector.Collector.unit.Goals as goal
-use Rattle.af_collect.proofs.collector.Collector.unit.Goals.{then-is_marking+else-units-gt0, else-is_marking}
+use Rattle.af_collect.proofs.collector.Collector.do_unit.Goals as goal
+use Rattle.af_collect.proofs.collector.Collector.do_unit.Goals.{then-is_marking+else-units-gt0, else-is_marking}
 
 -- Marking purges nothing.
 pub returns-then-units-gt0-clause-purged : goal.returns-then-units-gt0-clause-purged

@@ -3,7 +3,7 @@ use Rattle.af_base.specs.Reached.{IsGarbageCount}
 use Rattle.af_collect.specs.Purged.{ArePurged}
 use Rattle.af_collect.proofs.PassChanges.{counted_all, none_tabled}
 use Rattle.af_collect.proofs.EmptiedSockets.{purged_join, purged_more, purged_none}
-use Rattle.af_collect.proofs.collector.Collector.units.Goals as goal
+use Rattle.af_collect.proofs.collector.Collector.do_units.Goals as goal
 
 -- At first nothing was done.
 pub loop-left-init : goal.loop-left-init
@@ -28,12 +28,12 @@ pub loop-left-preserved : goal.loop-left-preserved
 loop-left-preserved c =
     let first = c.args.self.now.holdings.world in
     let before = c.loop-left.self.holdings.world in
-    let after = c.unit-units.new.self.holdings.world in
+    let after = c.do_unit-units.new.self.holdings.world in
     let budget = c.args.budget in
     let left = c.loop-left.left in
     let i = c.loop-left.invariant in
-    let u = c.unit-units.ensures in
-    let n = c.unit-units.result in
+    let u = c.do_unit-units.ensures in
+    let n = c.do_unit-units.result in
     let few = i.few in
     let low = u.few in
     let so_far = i.looked in
@@ -57,20 +57,20 @@ pub returns-then-units-eq0-clause-purged : goal.returns-then-units-eq0-clause-pu
 returns-then-units-eq0-clause-purged c =
     let first = c.args.self.now.holdings.world in
     let before = c.loop-left.self.holdings.world in
-    let after = c.unit-units.new.self.holdings.world in
+    let after = c.do_unit-units.new.self.holdings.world in
     let budget = c.args.budget in
     let left = c.loop-left.left in
     let i = c.loop-left.invariant in
-    let n = c.unit-units.result in
+    let n = c.do_unit-units.result in
     let few = i.few in
-    let low = c.unit-units.ensures.few in
-    let some = subst (λ s. ArePurged s.value.world before after n) i.begun c.unit-units.ensures.purged in
+    let low = c.do_unit-units.ensures.few in
+    let some = subst (λ s. ArePurged s.value.world before after n) i.begun c.do_unit-units.ensures.purged in
     purged_more first after ((budget - left) + n) budget (omega (arith, few, low)) (purged_join first before after (budget - left) n i.purged some)
 
 -- The begin is the same still.
 pub returns-then-units-eq0-clause-counted : goal.returns-then-units-eq0-clause-counted
 returns-then-units-eq0-clause-counted c = λ _.
-    subst (λ s. IsGarbageCount s.value.world c.unit-units.new.self.progress.reclaimed) c.loop-left.invariant.begun (c.unit-units.ensures.counted c.if-units-eq0.true)
+    subst (λ s. IsGarbageCount s.value.world c.do_unit-units.new.self.progress.reclaimed) c.loop-left.invariant.begun (c.do_unit-units.ensures.counted c.if-units-eq0.true)
 
 -- Where nothing is in flight nothing is purged.
 pub returns-then-is_calm-clause-purged : goal.returns-then-is_calm-clause-purged

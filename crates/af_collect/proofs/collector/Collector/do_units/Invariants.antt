@@ -5,7 +5,7 @@ use Rattle.af_base.specs.Whole.{IsSound}
 use Rattle.af_collect.specs.Keeping.{is_running}
 use Rattle.af_collect.specs.Purged.{ArePurged}
 use Rattle.af_collect.specs.StoreView.{KeepsPass}
-use Rattle.af_collect.proofs.collector.Collector.units.Given as goal
+use Rattle.af_collect.proofs.collector.Collector.do_units.Given as goal
 
 abbrev pub invariant-loop-left : goal.invariant-loop-left
 invariant-loop-left l = record {

@@ -32,9 +32,9 @@ pub loop-preserved : goal.loop-preserved
 loop-preserved c =
     let w = c.args.self.now.world in
     let b = c.loop.self-inside.collector.holdings.world in
-    let d = c.units.new.self.holdings.world in
+    let d = c.do_units.new.self.holdings.world in
     let i = c.loop.invariant in
-    let u = c.units.ensures in
+    let u = c.do_units.ensures in
     record {
       kept = u.kept;
       running = u.running;
@@ -49,12 +49,12 @@ pub returns-clause-collects : goal.returns-clause-collects
 returns-clause-collects c =
     let w = c.args.self.now.world in
     let b = c.loop.self-inside.collector.holdings.world in
-    let d = c.units.new.self.holdings.world in
+    let d = c.do_units.new.self.holdings.world in
     let i = c.loop.invariant in
-    let u = c.units.ensures in
+    let u = c.do_units.ensures in
     let over = c.loop-test.false in
     let gone = subst (λ v. (f : ℕ) → Garbage v f → ¬ (IsLive d f)) i.begun (u.gone over) in
-    let count = subst (λ v. IsGarbageCount v c.units.new.self.progress.reclaimed) i.begun (u.counted over) in
+    let count = subst (λ v. IsGarbageCount v c.do_units.new.self.progress.reclaimed) i.begun (u.counted over) in
     let all = purged_join w b d i.purged.0 MAX_BUDGET i.purged.1 (subst (λ v. ArePurged v b d MAX_BUDGET) i.begun u.purged) in
-    let done : Collects w c.units.new.self.progress.reclaimed d = record { test = count.0; is_garbage = count.1; purged = purged_whole d (i.purged.0 + MAX_BUDGET) count.0 all u.sound.settled gone count.1; counted = count } in
-    subst (Collects w c.units.new.self.progress.reclaimed) (sym (ap (λ (s : HoldingsView). s.world) c.end_pass.ensures.rest)) done
+    let done : Collects w c.do_units.new.self.progress.reclaimed d = record { test = count.0; is_garbage = count.1; purged = purged_whole d (i.purged.0 + MAX_BUDGET) count.0 all u.sound.settled gone count.1; counted = count } in
+    subst (Collects w c.do_units.new.self.progress.reclaimed) (sym (ap (λ (s : HoldingsView). s.world) c.end_pass.ensures.rest)) done

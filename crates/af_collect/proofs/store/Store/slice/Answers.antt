@@ -12,12 +12,12 @@ pub returns-clause-does : goal.returns-clause-does
 returns-clause-does c = λ begun spent pass e.
     let p = c.self.inside.collector in
     let b = p.begun.value.world in
-    let v = c.units.new.self.holdings.world in
-    let n = c.units.new.self.progress.reclaimed in
-    let u = c.units.ensures in
+    let v = c.do_units.new.self.holdings.world in
+    let n = c.do_units.new.self.progress.reclaimed in
+    let u = c.do_units.ensures in
     let is = seen_begun p.progress.stage b begun p.progress.looked spent (ap (λ (s : StoreView). s.pass) c.self.view_is ∙ e) in
     let left = ap (λ (s : HoldingsView). s.world) c.end_pass.ensures.rest in
     subst (λ x. Slices begun c.args.self.now.world spent c.args.budget pass (reply.Done pass n) x Idle) (sym left)
     (subst (λ (s : StoreView). Slices begun s.world spent c.args.budget pass (reply.Done pass n) v Idle) c.self.view_is
     (subst (λ x. Slices x p.holdings.world spent c.args.budget pass (reply.Done pass n) v Idle) is
-    (slices_done b b p.holdings.world v spent 0 c.args.budget pass n u.purged (u.gone c.if-not-units.false) (u.counted c.if-not-units.false))))
+    (slices_done b b p.holdings.world v spent 0 c.args.budget pass n u.purged (u.gone c.if-not-do_units.false) (u.counted c.if-not-do_units.false))))
