@@ -99,7 +99,7 @@ impl Files {
         requires countable { IsCountable place.now (count_in_map self.old.counts file.now) }
         ensures { self.new ≡ with_file_ref place.now file.now self.old }
     {
-        let first = self.rows.add_place(place, file);
+        let first = self.rows.add_ref(place, file);
         self.embryos = with_embryo(self.embryos, place);
         if first {
             // Of several unreferenced files, mostly the first gains a reference.
@@ -114,7 +114,7 @@ impl Files {
         requires countable { IsCountable place.now (count_in_map self.old.counts file.now) }
         ensures { self.new ≡ with_file_ref place.now file.now self.old }
     {
-        self.rows.add_place(place, file);
+        self.rows.add_ref(place, file);
         self.embryos = with_embryo(self.embryos, place);
     }
 
@@ -125,7 +125,7 @@ impl Files {
         requires { IsCounted place.now (count_in_map self.old.counts file.now) }
         ensures { self.new ≡ without_file_ref place.now file.now self.old }
     {
-        let last = self.rows.sub_place(place, file);
+        let last = self.rows.sub_ref(place, file);
         self.embryos = without_embryo(self.embryos, place);
         if last {
             self.unreferenced.push_reserved(file.duplicate());

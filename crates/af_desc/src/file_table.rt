@@ -358,7 +358,7 @@ impl FileTable {
     /// Adds one place of a file, which is known. Returns whether it had none. Takes no memory.
     #[inline(always)]
     #[tactic(auto, using(crate::proofs::TrackedTableView::chains, ordered_slab::proofs::Parts::parts, ordered_slab::proofs::Values::lent, af_ledger::proofs::Unreferenced::counted))]
-    pub fn add_place(&mut self, place: &Place, file: &FileRef) -> bool
+    pub fn add_ref(&mut self, place: &Place, file: &FileRef) -> bool
         requires known { IsTrue (map.contains_key self.old.counts file.now) }
         requires countable { IsCountable place.now (count_in_map self.old.counts file.now) }
         ensures counts { self.new ≡ record self.old {
@@ -377,7 +377,7 @@ impl FileTable {
     /// Drops one place of a file, which has one. Returns whether it was the last. Takes no memory.
     #[inline(always)]
     #[tactic(auto, using(crate::proofs::TrackedTableView::chains, ordered_slab::proofs::Parts::parts, ordered_slab::proofs::Values::lent, af_ledger::proofs::Unreferenced::counted))]
-    pub fn sub_place(&mut self, place: &Place, file: &FileRef) -> bool
+    pub fn sub_ref(&mut self, place: &Place, file: &FileRef) -> bool
         requires { IsCounted place.now (count_in_map self.old.counts file.now) }
         ensures counts { self.new ≡ record self.old {
           counts = map.insert self.old.counts file.now

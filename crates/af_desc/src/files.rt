@@ -253,7 +253,7 @@ impl Files {
         ensures gone { self.new ≡ freed file.now self.old }
     {
         self.blacken(file);
-        let (endpoint, unmarked) = self.take_out(file);
+        let (endpoint, unmarked) = self.remove_row(file);
         self.hang_up_peer(&endpoint);
         endpoint.is_some() && unmarked
     }
@@ -262,7 +262,7 @@ impl Files {
     /// mark it.
     #[inline(always)]
     #[tactic(auto, using(crate::proofs::FirstNumber::begun))]
-    fn take_out(&mut self, file: &FileRef) -> (Option<Endpoint>, bool)
+    fn remove_row(&mut self, file: &FileRef) -> (Option<Endpoint>, bool)
         requires white { is_grey self.old.marks file.now ≡ false }
         requires silent { queue_in self.old.files file.now ≡ [] }
         ensures socket { result.0 ≡ socket_in self.old.files file.now }

@@ -361,7 +361,7 @@ impl TrackedTable {
 
     /// Adds one place of a file, which is known. Returns whether it had none. Takes no memory.
     #[inline(always)]
-    pub fn add_place(&mut self, place: &Place, file: &FileRef) -> bool
+    pub fn add_ref(&mut self, place: &Place, file: &FileRef) -> bool
         requires known { IsTrue (map.contains_key self.old.counts file.now) }
         requires countable { IsCountable place.now (count_in_map self.old.counts file.now) }
         ensures counts { self.new ≡ record self.old {
@@ -371,12 +371,12 @@ impl TrackedTable {
         ensures len { map.len self.new.counts ≡ map.len self.old.counts }
         ensures first { result ≡ nat_eq (places_in (count_in_map self.old.counts file.now)) 0 }
     {
-        self.table.add_place(place, file)
+        self.table.add_ref(place, file)
     }
 
     /// Drops one place of a file, which has one. Returns whether it was the last. Takes no memory.
     #[inline(always)]
-    pub fn sub_place(&mut self, place: &Place, file: &FileRef) -> bool
+    pub fn sub_ref(&mut self, place: &Place, file: &FileRef) -> bool
         requires { IsCounted place.now (count_in_map self.old.counts file.now) }
         ensures counts { self.new ≡ record self.old {
           counts = map.insert self.old.counts file.now
@@ -385,7 +385,7 @@ impl TrackedTable {
         ensures len { map.len self.new.counts ≡ map.len self.old.counts }
         ensures last { result ≡ nat_eq (places_in (count_in_map self.old.counts file.now)) 1 }
     {
-        self.table.sub_place(place, file)
+        self.table.sub_ref(place, file)
     }
 
     /// Moves a place of a file, which has it, to a table (accept(2), recvmsg(2)). Takes no memory.

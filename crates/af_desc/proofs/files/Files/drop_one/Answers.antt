@@ -12,7 +12,7 @@ pub push_reserved-requires : goal.push_reserved-requires
 push_reserved-requires c =
     let a = c.self.inside in
     let counted = subst (λ (v : FilesView). IsCounted c.args.place.now (count_in_map v.counts c.args.file.now)) (sym c.self.view_is) c.requires in
-    let one = c.sub_place-last.ensures in
+    let one = c.sub_ref-last.ensures in
     let low = (lowered-pushed a.rows.counts _ a.unreferenced.items c.args.file.now c.self.invariant.unreferenced_listed c.args.place.now (ap (λ r. r.counts) one.counts) counted (sym one.last ∙ c.if-last.true)).1 in
     let fits = c.self.invariant.fits in
     omega (arith, low, fits, one.len, a.unreferenced.ok.0)
@@ -21,7 +21,7 @@ pub invariant_of-self : goal.invariant_of-self
 invariant_of-self c =
     let a = c.self.inside in
     let counted = subst (λ (v : FilesView). IsCounted c.args.place.now (count_in_map v.counts c.args.file.now)) (sym c.self.view_is) c.requires in
-    let one = c.sub_place-last.ensures in
+    let one = c.sub_ref-last.ensures in
     let pushed = (lowered-pushed a.rows.counts _ a.unreferenced.items c.args.file.now c.self.invariant.unreferenced_listed c.args.place.now refl counted (sym one.last ∙ c.if-last.true)).0 in
     let items : c.push_reserved.new.self.items ≡ a.unreferenced.items ++ c.args.file.now ∷ [] = search rules in
     filed-counted a.rows _ _ _ _ _ _ _ _ c.self.invariant _ c.push_reserved.new.self.items (vec_capacity c.push_reserved.new.self) one.counts (subst (AreUnreferenced _) (sym items) pushed) one.len (omega (arith, c.push_reserved.ensures.capacity)) _ (counted-fewer a.rows.counts c.args.file.now c.args.place.now a.embryos _ c.without_embryo-self-inside.ensures counted c.self.invariant.backlogged)
@@ -30,5 +30,5 @@ pub invariant_of-self-else-last : goal.invariant_of-self-else-last
 invariant_of-self-else-last c =
     let a = c.self.inside in
     let counted = subst (λ (v : FilesView). IsCounted c.args.place.now (count_in_map v.counts c.args.file.now)) (sym c.self.view_is) c.requires in
-    let one = c.sub_place-last.ensures in
+    let one = c.sub_ref-last.ensures in
     filed-counted a.rows _ _ _ _ _ _ _ _ c.self.invariant _ a.unreferenced.items (vec_capacity a.unreferenced) one.counts (lowered-kept a.rows.counts _ a.unreferenced.items c.args.file.now c.self.invariant.unreferenced_listed c.args.place.now refl counted (sym one.last ∙ c.if-last.false)) one.len (omega arith) _ (counted-fewer a.rows.counts c.args.file.now c.args.place.now a.embryos _ c.without_embryo-self-inside.ensures counted c.self.invariant.backlogged)

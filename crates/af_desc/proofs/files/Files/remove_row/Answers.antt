@@ -5,7 +5,7 @@ use Rattle.af_mark.specs.MarksView.{is_grey, is_unmarked}
 use Rattle.af_desc.specs.FilesView.{without}
 use Rattle.af_desc.proofs.FilesInvariant.{filed-removed, seen, seen-without}
 use Rattle.af_desc.proofs.Whites.{white-gone, white-seen}
-use Rattle.af_desc.proofs.files.Files.take_out.Goals as goal
+use Rattle.af_desc.proofs.files.Files.remove_row.Goals as goal
 
 pub overflow_sub-self : goal.overflow_sub-self
 overflow_sub-self c =
