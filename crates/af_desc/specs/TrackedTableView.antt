@@ -1,6 +1,6 @@
 -- One row for each file, and the messages of all, seen as three maps. Definitions that name no
 -- manual page are this project's own.
-use Rattle.std.specs.Prelude.{◌≡◌, ◌&&◌, ℕ, Bool, List, Option, Some, false, nat_lt, not, option_map}
+use Rattle.std.specs.Prelude.{◌≡◌, ◌&&◌, ℕ, Bool, List, Option, Some, false, nat_eq, nat_lt, not, option_map}
 use Rattle.std.specs.Option.{option_map_or}
 use Rattle.std.specs.FinMap as map
 use Rattle.slab.specs.Slab.{Slab}
@@ -14,7 +14,7 @@ use Rattle.af_mark.specs.Grey.{color_in, unmarked}
 use Rattle.af_mark.specs.MarksView.{is_mark}
 use Rattle.af_mark.specs.declared.mark.Mark.{Mark}
 use Rattle.ordered_slab.specs.Parts.{part}
-use Rattle.af_queue.specs.Chains.{messages_of, IsChain}
+use Rattle.af_queue.specs.Chains.{messages_of, AreApart, IsChain}
 use Rattle.af_queue.specs.declared.chain.Node.{Node}
 use Rattle.af_desc.specs.declared.file_row.FileRow.{FileRow}
 
@@ -87,9 +87,11 @@ counts_of m = part (λ r. r.count) m
 abbrev pub marks_of : Map FileRow → Map Mark
 marks_of m = part (λ r. r.mark) m
 
--- The chain of each row is its file's.
+-- Each row has a chain, and no node is of two rows.
 pub record AreChained (s : Slab Node) (m : Map FileRow) : Type 0 where
-  pub each : (f : ℕ) (x : FileRow) → map.get m f ≡ Some x → IsChain s x.chain f
+  pub each : (f : ℕ) (x : FileRow) → map.get m f ≡ Some x → IsChain s x.chain
+  pub apart : (f g : ℕ) (x y : FileRow) → map.get m f ≡ Some x → map.get m g ≡ Some y
+      → nat_eq f g ≡ false → AreApart s x.chain y.chain
 
 -- Whether the file has a mark, and is not marked in this pass.
 abbrev pub is_white_in : ℕ → Map Mark → ℕ → Bool

@@ -1,5 +1,5 @@
 //! The row of one file.
-ghost use Rattle.std.specs.Prelude.{◌≡◌, ◌<◌, [], ℕ, IfSome, IfNone, IfOk, OnOk, OnErr};
+ghost use Rattle.std.specs.Prelude.{◌≡◌, ◌<◌, [], IfSome, IfNone, IfOk, OnOk, OnErr};
 ghost use Rattle.std.specs.Prelude.{None, false, is_none, length, nat_lt, true};
 ghost use Rattle.af_base.specs.Changes.{file_with, pushed};
 ghost use Rattle.af_base.specs.Places.{contents, queue_of};
@@ -13,7 +13,7 @@ ghost use Rattle.af_desc.specs.TrackedTableView.{file_in};
 
 use crate::contents::Contents;
 use crate::socket::Endpoint;
-use af_base::ids::{Ino, Uid};
+use af_base::ids::Uid;
 use af_base::limits::MAX_MESSAGES;
 use af_ledger::Count;
 use af_mark::Mark;
@@ -41,7 +41,7 @@ impl FileRow {
     /// Returns what it holds, as far as one look tells.
     #[inline(always)]
     pub fn contents(&self, nodes: &Slab<Node>) -> Contents
-        requires chain { (owner : ℕ) × IsChain nodes.now self.now.chain owner }
+        requires chain { IsChain nodes.now self.now.chain }
         ensures { IsContents result (contents (file_in nodes.now self.now)) }
     {
         let Some(endpoint) = &self.endpoint else {
@@ -66,7 +66,7 @@ impl FileRow {
     /// Returns whether it has no name and its queue is empty: then it holds nothing.
     #[inline(always)]
     pub fn is_bare(&self, nodes: &Slab<Node>) -> bool
-        requires chain { (owner : ℕ) × IsChain nodes.now self.now.chain owner }
+        requires chain { IsChain nodes.now self.now.chain }
         ensures nameless { result ≡ true → name_of (file_in nodes.now self.now) ≡ None }
         ensures silent { result ≡ true → queue_of (file_in nodes.now self.now) ≡ [] }
         ensures bare { result ≡ true → contents (file_in nodes.now self.now) ≡ [] }
@@ -115,40 +115,40 @@ impl FileRow {
     /// Appends a message to its queue, which is not full: it is a socket. It cannot fail, since
     /// there is room.
     #[inline(always)]
-    pub fn push(&mut self, nodes: &mut Slab<Node>, owner: Ino, message: Msg)
+    pub fn push(&mut self, nodes: &mut Slab<Node>, message: Msg)
         requires socket { is_none (socket_of (file_in nodes.old self.old)) ≡ false }
-        requires chain { IsChain nodes.old self.old.chain owner }
+        requires chain { IsChain nodes.old self.old.chain }
         requires few { length (queue_of (file_in nodes.old self.old)) < MAX_MESSAGES }
         requires within { IsMessageWithin message }
         requires room { has_room nodes.old ≡ true }
         ensures file { file_in nodes.new self.new
             ≡ file_with (pushed message) (file_in nodes.old self.old) }
-        ensures chain { IsChain nodes.new self.new.chain owner }
-        ensures others { SameElsewhere nodes.old nodes.new owner }
+        ensures chain { IsChain nodes.new self.new.chain }
+        ensures others { SameElsewhere nodes.old self.old.chain nodes.new self.new.chain }
         ensures rest { self.new ≡ record self.old { chain = self.new.chain } }
     {
         // Without a way on which it is dropped, a message moves to its node at once.
         let _endpoint = self.endpoint.as_ref().unwrap();
-        pool::push(nodes, &mut self.chain, owner, message);
+        pool::push(nodes, &mut self.chain, message);
     }
 
     /// Removes the first message from its queue, if there is one. Returns its files, and the user
     /// who is charged for them. Takes no memory.
     #[inline(always)]
-    pub fn pop(&mut self, nodes: &mut Slab<Node>, owner: Ino) -> Option<(Attached, Uid)>
-        requires chain { IsChain nodes.old self.old.chain owner }
+    pub fn pop(&mut self, nodes: &mut Slab<Node>) -> Option<(Attached, Uid)>
+        requires chain { IsChain nodes.old self.old.chain }
         ensures some { IfSome result (λ first.
             IsFirst first.0.items first.1 (queue_of (file_in nodes.old self.old))) }
         ensures none { IfNone result (queue_of (file_in nodes.old self.old) ≡ []) }
         ensures file { file_in nodes.new self.new ≡ file_with popped (file_in nodes.old self.old) }
-        ensures chain { IsChain nodes.new self.new.chain owner }
-        ensures others { SameElsewhere nodes.old nodes.new owner }
+        ensures chain { IsChain nodes.new self.new.chain }
+        ensures others { SameElsewhere nodes.old self.old.chain nodes.new self.new.chain }
         ensures rest { self.new ≡ record self.old { chain = self.new.chain } }
     {
         let Some(_) = &self.endpoint else {
             return None;
         };
-        let message = pool::pop(nodes, &mut self.chain, owner)?;
+        let message = pool::pop(nodes, &mut self.chain)?;
         Some(message.into_parts())
     }
 
@@ -158,12 +158,11 @@ impl FileRow {
     pub fn take(
         &mut self,
         nodes: &mut Slab<Node>,
-        owner: Ino,
         alloc: Global,
         max: usize,
         taken: &mut Taken,
     ) -> Result<(), AllocError>
-        requires chain { IsChain nodes.old self.old.chain owner }
+        requires chain { IsChain nodes.old self.old.chain }
         requires some { 0 < max }
         requires empty { taken.old ≡ nothing_received }
         ensures taken { OnOk result
@@ -172,14 +171,14 @@ impl FileRow {
             ≡ file_with (received_from max) (file_in nodes.old self.old)) }
         ensures err { OnErr result (file_in nodes.new self.new ≡ file_in nodes.old self.old) }
         ensures unchanged { OnErr result (nodes.new ≡ nodes.old) }
-        ensures chain { IsChain nodes.new self.new.chain owner }
-        ensures others { SameElsewhere nodes.old nodes.new owner }
+        ensures chain { IsChain nodes.new self.new.chain }
+        ensures others { SameElsewhere nodes.old self.old.chain nodes.new self.new.chain }
         ensures rest { self.new ≡ record self.old { chain = self.new.chain } }
     {
         let Some(endpoint) = &self.endpoint else {
             return Ok(());
         };
         let kind = endpoint.kind();
-        pool::take(nodes, &mut self.chain, owner, alloc, kind, max, taken)
+        pool::take(nodes, &mut self.chain, alloc, kind, max, taken)
     }
 }

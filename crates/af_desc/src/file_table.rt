@@ -312,7 +312,7 @@ impl FileTable {
             ≡ with_socket_and_room self.old file.now (pushed message) self.new.message_room }
     {
         let row = self.rows.get_mut(file).unwrap();
-        row.push(&mut self.nodes, file.ino(), message);
+        row.push(&mut self.nodes, message);
     }
 
     /// Removes the first message from the queue of that socket, if there is one. Returns its files,
@@ -327,7 +327,7 @@ impl FileTable {
             ≡ with_socket_and_room self.old file.now popped self.new.message_room }
     {
         let row = self.rows.get_mut(file)?;
-        row.pop(&mut self.nodes, file.ino())
+        row.pop(&mut self.nodes)
     }
 
     /// Takes from the queue of that socket what a receive of at most this many bytes gives
@@ -352,7 +352,7 @@ impl FileTable {
         let Some(row) = self.rows.get_mut(file) else {
             return Ok(());
         };
-        row.take(&mut self.nodes, file.ino(), alloc, max, taken)
+        row.take(&mut self.nodes, alloc, max, taken)
     }
 
     /// Adds one place of a file, which is known. Returns whether it had none. Takes no memory.

@@ -1,6 +1,6 @@
 -- Messages of many queues in one slab, each linked to the one behind it. Definitions that name no
 -- manual page are this project's own.
-use Rattle.std.specs.Prelude.{◌≡◌, ◌&&◌, Bool, nat_lt, ◌≢◌, ◌<◌, ◌≤◌, ◌+◌, ◌^◌, ℕ, zero, suc, List, [], ◌∷◌, Some, nat_eq, false}
+use Rattle.std.specs.Prelude.{◌≡◌, ◌&&◌, Bool, nat_lt, ◌<◌, ◌≤◌, ◌+◌, ◌^◌, ℕ, zero, suc, List, [], ◌∷◌, Some, nat_eq, true, false}
 use Rattle.std.specs.List.{list_any}
 use Rattle.std.specs.Option.{option_map_or}
 use Rattle.slab.specs.Slab as slots
@@ -26,29 +26,41 @@ abbrev pub messages_from : Slab Node → ℕ → ℕ → List Message
 messages_from s k zero = []
 messages_from s k (suc n) = option_map_or (λ x. x.message ∷ messages_from s x.next n) (slots.get s k) []
 
+-- The keys of a queue's nodes.
+abbrev pub keys_of : Slab Node → Chain → List ℕ
+keys_of s c = keys_from s c.first c.len
+
 -- The messages of a queue, first in, first out.
 abbrev pub messages_of : Slab Node → Chain → List Message
 messages_of s c = messages_from s c.first c.len
 
--- The n nodes from this one on exist, belong to f, and are distinct, and each message is within the
--- limits; the last has key l.
-abbrev pub IsPath : Slab Node → ℕ → ℕ → ℕ → ℕ → Type 0
-IsPath s f l k zero = k ≡ k
-IsPath s f l k (suc n) =
-    (x : Node) × ((slots.get s k ≡ Some x) × (x.owner ≡ f)
+-- The n nodes from this one on exist, and are distinct, and each message is within the limits; the
+-- last has key l.
+abbrev pub IsPath : Slab Node → ℕ → ℕ → ℕ → Type 0
+IsPath s l k zero = k ≡ k
+IsPath s l k (suc n) =
+    (x : Node) × ((slots.get s k ≡ Some x)
     × (list_any (nat_eq k) (keys_from s x.next n) ≡ false) × (n ≡ zero → k ≡ l)
-    × IsMessageWithin x.message × IsPath s f l x.next n)
+    × IsMessageWithin x.message × IsPath s l x.next n)
 
--- The nodes of a queue, 64 at most, are linked, and are that file's. Its messages have attached
--- files only if it says so.
-pub record IsChain (s : Slab Node) (c : Chain) (f : ℕ) : Type 0 where
+-- The nodes of a queue, 64 at most, are linked. Its messages have attached files only if it says so.
+pub record IsChain (s : Slab Node) (c : Chain) : Type 0 where
   pub few : c.len ≤ MAX_MESSAGES
-  pub path : IsPath s f c.last c.first c.len
+  pub path : IsPath s c.last c.first c.len
   pub no_files : c.has_files ≡ false → attached_in (messages_of s c) ≡ []
 
--- The nodes of all other files are as they were.
-abbrev pub SameElsewhere : Slab Node → Slab Node → ℕ → Type 0
-SameElsewhere s t f = (q : ℕ) (x : Node) → slots.get s q ≡ Some x → x.owner ≢ f → slots.get t q ≡ Some x
+-- Whether the node at this key is one of the queue's.
+abbrev pub has_node : Slab Node → Chain → ℕ → Bool
+has_node s c q = list_any (nat_eq q) (keys_of s c)
+
+-- No node is of both queues.
+abbrev pub AreApart : Slab Node → Chain → Chain → Type 0
+AreApart s c d = (q : ℕ) → has_node s c q ≡ true → has_node s d q ≡ false
+
+-- Each node that is not of the queue c is as it was, and not of the queue d, which c became.
+abbrev pub SameElsewhere : Slab Node → Chain → Slab Node → Chain → Type 0
+SameElsewhere s c t d = (q : ℕ) (x : Node) → slots.get s q ≡ Some x → has_node s c q ≡ false
+    → (slots.get t q ≡ Some x) × (has_node t d q ≡ false)
 
 -- No node is lost: as many come and go as the queue has messages more or less.
 abbrev pub KeepsNodes : Slab Node → Chain → Slab Node → Chain → Type 0

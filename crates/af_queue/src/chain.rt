@@ -2,13 +2,11 @@
 ghost use Rattle.std.specs.Prelude.{◌≡◌};
 
 use crate::message::Msg;
-use af_base::ids::Ino;
 
-/// A message, the file of its queue, and the key of the next message.
+/// A message, and the key of the next message of its queue.
 #[derive(Drop)]
 pub struct Node {
     pub message: Msg,
-    pub owner: Ino,
     pub next: u32,
 }
 

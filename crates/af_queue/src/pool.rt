@@ -15,7 +15,6 @@ use crate::message::Msg;
 use crate::queue::Queue;
 use crate::taken::Taken;
 use af_base::events::SockType;
-use af_base::ids::Ino;
 use af_base::items::Items;
 use af_base::limits::MAX_MESSAGES;
 use slab::Slab;
@@ -38,23 +37,19 @@ pub fn room(nodes: &mut Slab<Node>) -> Result<(), AllocError>
 /// Appends a message to this chain, which is that file's and not full. It cannot fail, since there
 /// is room.
 #[inline(always)]
-pub fn push(nodes: &mut Slab<Node>, chain: &mut Chain, owner: Ino, message: Msg)
-    requires chain { IsChain nodes.old chain.old owner }
+pub fn push(nodes: &mut Slab<Node>, chain: &mut Chain, message: Msg)
+    requires chain { IsChain nodes.old chain.old }
     requires few { length (messages_of nodes.old chain.old) < MAX_MESSAGES }
     requires within { IsMessageWithin message }
     requires room { has_room nodes.old ≡ true }
-    ensures chain { IsChain nodes.new chain.new owner }
+    ensures chain { IsChain nodes.new chain.new }
     ensures messages { messages_of nodes.new chain.new
         ≡ messages_of nodes.old chain.old ++ message ∷ [] }
-    ensures others { SameElsewhere nodes.old nodes.new owner }
+    ensures others { SameElsewhere nodes.old chain.old nodes.new chain.new }
     ensures none_lost { KeepsNodes nodes.old chain.old nodes.new chain.new }
 {
     let has_files = message.has_files();
-    let key = nodes.insert_reserved(Node {
-        message,
-        owner,
-        next: 0,
-    }) as u32;
+    let key = nodes.insert_reserved(Node { message, next: 0 }) as u32;
     if chain.len == 0 {
         *chain = Chain {
             first: key,
@@ -85,15 +80,15 @@ fn link(nodes: &mut Slab<Node>, key: u32, next: u32)
 
 /// Removes the first message of this chain, which is that file's, if there is one. Takes no memory.
 #[inline(always)]
-pub fn pop(nodes: &mut Slab<Node>, chain: &mut Chain, owner: Ino) -> Option<Msg>
-    requires chain { IsChain nodes.old chain.old owner }
-    ensures chain { IsChain nodes.new chain.new owner }
+pub fn pop(nodes: &mut Slab<Node>, chain: &mut Chain) -> Option<Msg>
+    requires chain { IsChain nodes.old chain.old }
+    ensures chain { IsChain nodes.new chain.new }
     ensures some { IfSome result (λ m.
         messages_of nodes.old chain.old ≡ m ∷ messages_of nodes.new chain.new) }
     ensures none { IfNone result (messages_of nodes.old chain.old ≡ []) }
     ensures rest { messages_of nodes.new chain.new ≡ drop 1 (messages_of nodes.old chain.old) }
     ensures within { IfSome result IsMessageWithin }
-    ensures others { SameElsewhere nodes.old nodes.new owner }
+    ensures others { SameElsewhere nodes.old chain.old nodes.new chain.new }
     ensures none_lost { KeepsNodes nodes.old chain.old nodes.new chain.new }
 {
     if chain.len == 0 {
@@ -112,29 +107,28 @@ pub fn pop(nodes: &mut Slab<Node>, chain: &mut Chain, owner: Ino) -> Option<Msg>
 pub fn take(
     nodes: &mut Slab<Node>,
     chain: &mut Chain,
-    owner: Ino,
     alloc: Global,
     kind: SockType,
     max: usize,
     taken: &mut Taken,
 ) -> Result<(), AllocError>
-    requires chain { IsChain nodes.old chain.old owner }
+    requires chain { IsChain nodes.old chain.old }
     requires some { 0 < max }
     requires empty { taken.old ≡ nothing_received }
     ensures taken { OnOk result (taken.new ≡ received kind (messages_of nodes.old chain.old) max) }
     ensures rest { OnOk result (messages_of nodes.new chain.new
         ≡ (take_from kind (messages_of nodes.old chain.old) max).rest) }
-    ensures chain { IsChain nodes.new chain.new owner }
-    ensures others { SameElsewhere nodes.old nodes.new owner }
+    ensures chain { IsChain nodes.new chain.new }
+    ensures others { SameElsewhere nodes.old chain.old nodes.new chain.new }
     ensures none_lost { KeepsNodes nodes.old chain.old nodes.new chain.new }
     ensures same { OnErr result
         (messages_of nodes.new chain.new ≡ messages_of nodes.old chain.old) }
     ensures unchanged { OnErr result (nodes.new ≡ nodes.old) }
 {
     match kind {
-        SockType::Stream => take_stream(nodes, chain, owner, alloc, max, taken),
+        SockType::Stream => take_stream(nodes, chain, alloc, max, taken),
         SockType::Seqpacket => {
-            take_packet(nodes, chain, owner, max, taken);
+            take_packet(nodes, chain, max, taken);
             Ok(())
         }
     }
@@ -142,16 +136,16 @@ pub fn take(
 
 /// Takes a packet: the first message, cut to this many bytes.
 #[inline(always)]
-fn take_packet(nodes: &mut Slab<Node>, chain: &mut Chain, owner: Ino, max: usize, taken: &mut Taken)
-    requires chain { IsChain nodes.old chain.old owner }
+fn take_packet(nodes: &mut Slab<Node>, chain: &mut Chain, max: usize, taken: &mut Taken)
+    requires chain { IsChain nodes.old chain.old }
     requires empty { taken.old ≡ nothing_received }
     ensures taken { taken.new ≡ received SockType.Seqpacket (messages_of nodes.old chain.old) max }
     ensures rest { messages_of nodes.new chain.new ≡ drop 1 (messages_of nodes.old chain.old) }
-    ensures chain { IsChain nodes.new chain.new owner }
-    ensures others { SameElsewhere nodes.old nodes.new owner }
+    ensures chain { IsChain nodes.new chain.new }
+    ensures others { SameElsewhere nodes.old chain.old nodes.new chain.new }
     ensures none_lost { KeepsNodes nodes.old chain.old nodes.new chain.new }
 {
-    if let Some(message) = pop(nodes, chain, owner) {
+    if let Some(message) = pop(nodes, chain) {
         message.give(max, taken);
     }
 }
@@ -160,20 +154,19 @@ fn take_packet(nodes: &mut Slab<Node>, chain: &mut Chain, owner: Ino, max: usize
 fn take_stream(
     nodes: &mut Slab<Node>,
     chain: &mut Chain,
-    owner: Ino,
     alloc: Global,
     max: usize,
     taken: &mut Taken,
 ) -> Result<(), AllocError>
-    requires chain { IsChain nodes.old chain.old owner }
+    requires chain { IsChain nodes.old chain.old }
     requires some { 0 < max }
     requires empty { taken.old ≡ nothing_received }
     ensures taken { OnOk result
         (taken.new ≡ received SockType.Stream (messages_of nodes.old chain.old) max) }
     ensures rest { OnOk result (messages_of nodes.new chain.new
         ≡ (take_stream (messages_of nodes.old chain.old) max).rest) }
-    ensures chain { IsChain nodes.new chain.new owner }
-    ensures others { SameElsewhere nodes.old nodes.new owner }
+    ensures chain { IsChain nodes.new chain.new }
+    ensures others { SameElsewhere nodes.old chain.old nodes.new chain.new }
     ensures none_lost { KeepsNodes nodes.old chain.old nodes.new chain.new }
     ensures same { OnErr result
         (messages_of nodes.new chain.new ≡ messages_of nodes.old chain.old) }
@@ -185,49 +178,44 @@ fn take_stream(
         && max < first.len()
     {
         taken.copy_bytes(&first.bytes()[..max])?;
-        shorten_first(nodes, chain, owner, max, taken);
+        shorten_first(nodes, chain, max, taken);
         return Ok(());
     }
     let (count, _) = queue.stream_cut(max);
     if queue.front_len() == count {
-        take_packet(nodes, chain, owner, count, taken);
+        take_packet(nodes, chain, count, taken);
         return Ok(());
     }
     let bytes = queue.copy(alloc, count)?;
     taken.set_bytes(Items::of(bytes));
-    cut(nodes, chain, owner, count, taken);
+    cut(nodes, chain, count, taken);
     Ok(())
 }
 
 /// Removes this many of the first bytes, and the files of the message that has the last of them.
 /// Takes these files, with the user who sent them.
-fn cut(nodes: &mut Slab<Node>, chain: &mut Chain, owner: Ino, count: usize, taken: &mut Taken)
-    requires chain { IsChain nodes.old chain.old owner }
+fn cut(nodes: &mut Slab<Node>, chain: &mut Chain, count: usize, taken: &mut Taken)
+    requires chain { IsChain nodes.old chain.old }
     requires some { 0 < count }
     requires bare { taken.old.message.attached ≡ [] }
     ensures messages { messages_of nodes.new chain.new
         ≡ cut count (messages_of nodes.old chain.old) }
     ensures taken { taken.new ≡ option_map_or (λ m. with_files_of m taken.old)
         (message_at count (messages_of nodes.old chain.old)) taken.old }
-    ensures chain { IsChain nodes.new chain.new owner }
-    ensures others { SameElsewhere nodes.old nodes.new owner }
+    ensures chain { IsChain nodes.new chain.new }
+    ensures others { SameElsewhere nodes.old chain.old nodes.new chain.new }
     ensures none_lost { KeepsNodes nodes.old chain.old nodes.new chain.new }
 {
     let mut left = count;
-    while let Some(rest) = drop_shorter(nodes, chain, owner, left) {
+    while let Some(rest) = drop_shorter(nodes, chain, left) {
         left = rest;
     }
-    cut_first(nodes, chain, owner, left, taken);
+    cut_first(nodes, chain, left, taken);
 }
 
 /// Removes the first message, if it has fewer bytes than this. Returns how many are left to remove.
-fn drop_shorter(
-    nodes: &mut Slab<Node>,
-    chain: &mut Chain,
-    owner: Ino,
-    count: usize,
-) -> Option<usize>
-    requires chain { IsChain nodes.old chain.old owner }
+fn drop_shorter(nodes: &mut Slab<Node>, chain: &mut Chain, count: usize) -> Option<usize>
+    requires chain { IsChain nodes.old chain.old }
     ensures cut { IfSome result (λ rest.
         cut rest (messages_of nodes.new chain.new) ≡ cut count (messages_of nodes.old chain.old)) }
     ensures at { IfSome result (λ rest. message_at rest (messages_of nodes.new chain.new)
@@ -235,8 +223,8 @@ fn drop_shorter(
     ensures more { IfSome result (λ rest. 0 < rest) }
     ensures fewer { IfSome result (λ _.
         length (messages_of nodes.new chain.new) < length (messages_of nodes.old chain.old)) }
-    ensures chain { IsChain nodes.new chain.new owner }
-    ensures others { SameElsewhere nodes.old nodes.new owner }
+    ensures chain { IsChain nodes.new chain.new }
+    ensures others { SameElsewhere nodes.old chain.old nodes.new chain.new }
     ensures none_lost { KeepsNodes nodes.old chain.old nodes.new chain.new }
     ensures nodes { IfNone result (nodes.new ≡ nodes.old) }
     ensures same { IfNone result (chain.new ≡ chain.old) }
@@ -247,14 +235,14 @@ fn drop_shorter(
     if count <= size {
         return None;
     }
-    pop(nodes, chain, owner);
+    pop(nodes, chain);
     Some(count - size)
 }
 
 /// Removes this many bytes of the first message of this chain, which has at least as many, and its
 /// files. Takes them with the user who sent it. Removes an empty message.
-fn cut_first(nodes: &mut Slab<Node>, chain: &mut Chain, owner: Ino, count: usize, taken: &mut Taken)
-    requires chain { IsChain nodes.old chain.old owner }
+fn cut_first(nodes: &mut Slab<Node>, chain: &mut Chain, count: usize, taken: &mut Taken)
+    requires chain { IsChain nodes.old chain.old }
     requires some { 0 < count }
     requires long { IfSome (slice_get (messages_of nodes.old chain.old) 0) (λ m.
         count ≤ length m.bytes) }
@@ -263,15 +251,15 @@ fn cut_first(nodes: &mut Slab<Node>, chain: &mut Chain, owner: Ino, count: usize
         ≡ cut count (messages_of nodes.old chain.old) }
     ensures taken { taken.new ≡ option_map_or (λ m. with_files_of m taken.old)
         (slice_get (messages_of nodes.old chain.old) 0) taken.old }
-    ensures chain { IsChain nodes.new chain.new owner }
-    ensures others { SameElsewhere nodes.old nodes.new owner }
+    ensures chain { IsChain nodes.new chain.new }
+    ensures others { SameElsewhere nodes.old chain.old nodes.new chain.new }
     ensures none_lost { KeepsNodes nodes.old chain.old nodes.new chain.new }
 {
     if count < Queue::of(nodes, chain).front_len() {
-        shorten_first(nodes, chain, owner, count, taken);
+        shorten_first(nodes, chain, count, taken);
         return;
     }
-    if let Some(mut message) = pop(nodes, chain, owner) {
+    if let Some(mut message) = pop(nodes, chain) {
         taken.take_files(&mut message);
     }
 }
@@ -279,8 +267,8 @@ fn cut_first(nodes: &mut Slab<Node>, chain: &mut Chain, owner: Ino, count: usize
 /// Removes this many bytes of the first message of this chain, which has more, and its files.
 /// Takes them with the user who sent it. Takes no memory.
 #[inline(always)]
-fn shorten_first(nodes: &mut Slab<Node>, chain: &Chain, owner: Ino, count: usize, taken: &mut Taken)
-    requires chain { IsChain nodes.old chain.now owner }
+fn shorten_first(nodes: &mut Slab<Node>, chain: &Chain, count: usize, taken: &mut Taken)
+    requires chain { IsChain nodes.old chain.now }
     requires some { 0 < count }
     requires long { count
         < option_map_or (λ m. length m.bytes) (slice_get (messages_of nodes.old chain.now) 0) 0 }
@@ -289,8 +277,8 @@ fn shorten_first(nodes: &mut Slab<Node>, chain: &Chain, owner: Ino, count: usize
         ≡ cut count (messages_of nodes.old chain.now) }
     ensures taken { taken.new ≡ option_map_or (λ m. with_files_of m taken.old)
         (slice_get (messages_of nodes.old chain.now) 0) taken.old }
-    ensures chain { IsChain nodes.new chain.now owner }
-    ensures others { SameElsewhere nodes.old nodes.new owner }
+    ensures chain { IsChain nodes.new chain.now }
+    ensures others { SameElsewhere nodes.old chain.now nodes.new chain.now }
     ensures none_lost { slots.slab_len nodes.new ≡ slots.slab_len nodes.old }
 {
     if let Some(node) = nodes.get_mut(chain.first as usize) {

@@ -1,5 +1,5 @@
 //! The messages of one queue, lent for reading.
-ghost use Rattle.std.specs.Prelude.{◌≡◌, ◌≤◌, ◌<◌, ◌*◌, ◌-◌, ◌∷◌, ◌++◌, [], ℕ, IfSome, IfNone};
+ghost use Rattle.std.specs.Prelude.{◌≡◌, ◌≤◌, ◌<◌, ◌*◌, ◌-◌, ◌∷◌, ◌++◌, [], IfSome, IfNone};
 ghost use Rattle.std.specs.Prelude.{IfOk, drop, length, take, slice_get, option_copied};
 ghost use Rattle.std.specs.Option.{option_map_or};
 ghost use Rattle.af_base.specs.Places.{attached_in};
@@ -49,10 +49,10 @@ impl<'a> Model for Queue<'a> {
 }
 
 impl<'a> Queue<'a> {
-    /// Lends the messages of this chain, which is some file's.
+    /// Lends the messages of this chain.
     #[inline(always)]
     pub fn of(nodes: &'a Slab<Node>, chain: &Chain) -> Queue<'a>
-        requires chain { (owner : ℕ) × IsChain nodes.now chain.now owner }
+        requires chain { IsChain nodes.now chain.now }
         ensures { result ≡ messages_of nodes.now chain.now }
     {
         Queue {

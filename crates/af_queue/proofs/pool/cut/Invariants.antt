@@ -10,8 +10,8 @@ invariant-loop-rest l = record {
   some : 0 < l.left;
   cut : cut l.left (messages_of l.nodes l.chain) ≡ cut l.fn.count (messages_of l.initial.nodes l.initial.chain);
   at : message_at l.left (messages_of l.nodes l.chain) ≡ message_at l.fn.count (messages_of l.initial.nodes l.initial.chain);
-  chain : IsChain l.nodes l.chain l.fn.owner;
-  others : SameElsewhere l.initial.nodes l.nodes l.fn.owner;
+  chain : IsChain l.nodes l.chain;
+  others : SameElsewhere l.initial.nodes l.initial.chain l.nodes l.chain;
   none_lost : KeepsNodes l.initial.nodes l.initial.chain l.nodes l.chain;
 }
 

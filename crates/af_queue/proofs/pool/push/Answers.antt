@@ -14,9 +14,9 @@ returns-clause-chain c =
     let chain = c.args.chain.now in
     let insert = c.insert_reserved-key in
     let few = c.requires.few in
-    let more = pushed c.args.nodes.now insert.new.self c.link.new.nodes c.args.owner chain.last insert.result _ insert.ensures.was_vacant refl c.requires.within insert.ensures.updates c.link.ensures.linked c.link.ensures.others chain.first chain.len c.if-chain-eq0.false c.requires.chain.path in
+    let more = pushed c.args.nodes.now insert.new.self c.link.new.nodes chain.last insert.result _ insert.ensures.was_vacant c.requires.within insert.ensures.updates c.link.ensures.linked c.link.ensures.others chain.first chain.len c.if-chain-eq0.false c.requires.chain.path in
     record {
-      few = omega (arith, few, path_many c.args.nodes.now c.args.owner chain.last chain.first chain.len c.requires.chain.path);
+      few = omega (arith, few, path_many c.args.nodes.now chain.last chain.first chain.len c.requires.chain.path);
       path = more.0;
       no_files = λ e. let none = neither chain.has_files c.has_files-has_files.result e in ap attached_in more.1 ∙ no_files_pushed (messages_of c.args.nodes.now chain) c.args.message (c.requires.chain.no_files none.0) (sym c.has_files-has_files.ensures ∙ none.1);
     }
@@ -25,10 +25,10 @@ pub returns-clause-messages : goal.returns-clause-messages
 returns-clause-messages c =
     let chain = c.args.chain.now in
     let insert = c.insert_reserved-key in
-    (pushed c.args.nodes.now insert.new.self c.link.new.nodes c.args.owner chain.last insert.result _ insert.ensures.was_vacant refl c.requires.within insert.ensures.updates c.link.ensures.linked c.link.ensures.others chain.first chain.len c.if-chain-eq0.false c.requires.chain.path).1
+    (pushed c.args.nodes.now insert.new.self c.link.new.nodes chain.last insert.result _ insert.ensures.was_vacant c.requires.within insert.ensures.updates c.link.ensures.linked c.link.ensures.others chain.first chain.len c.if-chain-eq0.false c.requires.chain.path).1
 
 pub returns-clause-others : goal.returns-clause-others
 returns-clause-others c =
     let chain = c.args.chain.now in
     let insert = c.insert_reserved-key in
-    pushed_elsewhere c.args.nodes.now insert.new.self c.link.new.nodes c.args.owner chain.last insert.result _ insert.ensures.was_vacant refl c.requires.within insert.ensures.updates c.link.ensures.linked c.link.ensures.others chain.first chain.len c.if-chain-eq0.false c.requires.chain.path
+    pushed_elsewhere c.args.nodes.now insert.new.self c.link.new.nodes chain.last insert.result _ insert.ensures.was_vacant c.requires.within insert.ensures.updates c.link.ensures.linked c.link.ensures.others chain.first chain.len c.if-chain-eq0.false c.requires.chain.path

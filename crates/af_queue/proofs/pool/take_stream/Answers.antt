@@ -36,7 +36,7 @@ pub returns-clause-taken : goal.returns-clause-taken
 returns-clause-taken c =
     let chain = c.args.chain.now in
     let q = messages_of c.args.nodes.now chain in
-    let have = have-bytes q (path_within c.args.nodes.now c.args.owner chain.last chain.first chain.len c.requires.chain.path) in
+    let have = have-bytes q (path_within c.args.nodes.now chain.last chain.first chain.len c.requires.chain.path) in
     let at : slice_get q 0 ≡ Some c.in-Some.first.now = sym (ap (λ q. slice_get q 0) c.of-queue.ensures) ∙ sym c.first.ensures ∙ ap option_copied c.in-Some.is in
     let part = subst (λ o. c.args.max < option_map_or (λ m. length m.bytes) o 0) (sym at) (omega (arith, c.if-max-len.true, c.len.ensures)) in
     let copied = ap (take c.args.max) c.bytes.ensures ∙ sym (ap (λ o. option_map_or (λ m. take c.args.max m.bytes) o []) at) in
@@ -47,7 +47,7 @@ pub returns-clause-rest : goal.returns-clause-rest
 returns-clause-rest c =
     let chain = c.args.chain.now in
     let q = messages_of c.args.nodes.now chain in
-    let have = have-bytes q (path_within c.args.nodes.now c.args.owner chain.last chain.first chain.len c.requires.chain.path) in
+    let have = have-bytes q (path_within c.args.nodes.now chain.last chain.first chain.len c.requires.chain.path) in
     let at : slice_get q 0 ≡ Some c.in-Some.first.now = sym (ap (λ q. slice_get q 0) c.of-queue.ensures) ∙ sym c.first.ensures ∙ ap option_copied c.in-Some.is in
     let part = subst (λ o. c.args.max < option_map_or (λ m. length m.bytes) o 0) (sym at) (omega (arith, c.if-max-len.true, c.len.ensures)) in
     c.shorten_first.ensures.messages ∙ ap (λ k. cut k q) (front-cut q c.args.max part) ∙ sym (ap (λ t. t.rest) (stream-is q c.args.max c.requires.some have))

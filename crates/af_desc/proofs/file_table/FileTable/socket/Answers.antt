@@ -25,7 +25,7 @@ returns-in_err-endpoint c =
 pub of-requires : goal.of-requires
 of-requires c =
     let at : map.get c.self.inside.rows.values c.args.file.now ≡ Some c.in_ok-row.row.now = sym c.get.ensures ∙ ap option_copied c.in_ok-row.was in
-    record { chain = (c.args.file.now, c.self.invariant.each c.args.file.now c.in_ok-row.row.now at) }
+    record { chain = c.self.invariant.each c.args.file.now c.in_ok-row.row.now at }
 
 pub returns : goal.returns
 returns c =

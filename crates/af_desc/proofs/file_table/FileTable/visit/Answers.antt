@@ -1,11 +1,6 @@
-use Rattle.std.proofs.Common.{refl, sym, ap, ◌∙◌}
+use Rattle.std.proofs.Common.{sym, ap, ◌∙◌}
 use Rattle.std.specs.Option.{option_copied_mut}
-use Rattle.af_desc.proofs.TrackedTableView.{chained_at}
 use Rattle.af_desc.proofs.file_table.FileTable.visit.Goals as goal
 
 pub contents-requires : goal.contents-requires
-contents-requires c =
-    let a = c.self.inside in
-    let f = c.args.file.now in
-    let at = sym c.get_mut.ensures.value ∙ ap option_copied_mut c.in_ok-row.was in
-    record { chain = (f, chained_at a.nodes a.rows.values f f c.in_ok-row.row.now refl at c.self.invariant) }
+contents-requires c = record { chain = c.self.invariant.each c.args.file.now c.in_ok-row.row.now (sym c.get_mut.ensures.value ∙ ap option_copied_mut c.in_ok-row.was) }
