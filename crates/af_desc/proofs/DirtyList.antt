@@ -217,7 +217,7 @@ module _ (asked : Bool) (old new : FileTableView) (f : ℕ) (is : new ≡ record
 pub dirty-socket : (asked note : Bool) (old new : FileTableView) (f : ℕ) → MakesDirty note old new f → (asked ≡ true → is_socket_in old.files f ≡ true → note ≡ true) → MakesDirty asked old new f
 dirty-socket asked note old new f n same = record { rest = n.rest; dirty = λ a s e. n.dirty (same a s) s e; others = n.others; len = n.len }
 
--- A new file is a socket if it has an endpoint.
+-- A new file is a socket if its kind is one.
 pub socket-new : (files : Map File) (f : ℕ) (o : Option Socket) → is_socket_in (map.insert files f (file_of o)) f ≡ is_some o
 socket-new files f o = ap (λ q. is_some (option_and_then socket_of q)) (insert-here files f (file_of o)) ∙ by o where
   by : (o : Option Socket) → is_some (socket_of (file_of o)) ≡ is_some o

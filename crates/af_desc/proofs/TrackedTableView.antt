@@ -1,7 +1,7 @@
 -- Three maps of one row, as a row is added, changed in one part, and removed; and the messages of
 -- all.
 use Rattle.std.proofs.Common.{◌≡◌, ℕ, ◌⊎◌, inl, inr, false, List, [], refl, sym, ap, ◌∙◌, subst, nat_eq}
-use Rattle.std.specs.Prelude.{Option, Some, None, IfSome, nat_lt, option_map}
+use Rattle.std.specs.Prelude.{Option, Some, None, IfSome, if◌then◌else◌, is_some, nat_lt, option_map}
 use Rattle.std.specs.Option.{option_and_then}
 use Rattle.std.specs.FinMap as map
 use Rattle.std.specs.FinMap.{nat_cmp-IsAntisymmetric, same_map}
@@ -9,6 +9,7 @@ use Rattle.std.specs.Ordering.{nat_cmp}
 use Rattle.std.specs.Cmp.{nat_cmp_total}
 use Rattle.slab.specs.Slab.{SameValues, Slab}
 use Rattle.af_base.specs.Changes.{change_socket_at, file_with}
+use Rattle.af_base.specs.Places.{backlog_of, queue_of}
 use Rattle.af_base.specs.Refusals.{socket_of}
 use Rattle.af_base.specs.World.{AsSocket, Map, Message, Socket}
 use Rattle.af_base.proofs.Lookups.{insert-here, insert-other, none_some, not_same, remove-here, remove-other, same_or_not, some_same}
@@ -19,7 +20,8 @@ use Rattle.af_queue.specs.declared.chain.Node.{Node}
 use Rattle.af_queue.proofs.Chains.{apart_both, none_apart, none_chain, none_of, other_apart, other_pair, other_queue, same_apart, same_queue}
 use Rattle.af_desc.specs.FilesView.{socket_in}
 use Rattle.af_desc.specs.FileTableView.{dirty_of}
-use Rattle.af_desc.specs.TrackedTableView.{counts_of, file_in, file_of, files_of, marks_of, refilled, AreChained}
+use Rattle.af_desc.specs.Form.{embryos_of}
+use Rattle.af_desc.specs.TrackedTableView.{counts_of, file_in, file_of, files_of, marks_of, refilled, socket_of_row, AreChained}
 use Rattle.af_desc.specs.declared.file_row.FileRow.{FileRow}
 use Rattle.af_desc.proofs.FileNames.{unchanged}
 
@@ -92,8 +94,8 @@ module _ (s : Slab Node) (m : Map FileRow) (f : ℕ) (x : FileRow) (none : x.cha
   }
 
   -- The files have the new one.
-  pub files_put : IfSome x.endpoint (λ e. e.queue ≡ []) → files_of s (map.insert m f x) ≡ map.insert (files_of s m) f (file_of x.endpoint)
-  files_put silent = part_put (file_in s) m f x ∙ ap (map.insert (files_of s m) f) (by x.endpoint silent) where
+  pub files_put : IfSome x.kind (λ e. e.queue ≡ []) → files_of s (map.insert m f x) ≡ map.insert (files_of s m) f (file_of x.kind)
+  files_put silent = part_put (file_in s) m f x ∙ ap (map.insert (files_of s m) f) (by x.kind silent) where
     by : (o : Option Socket) → IfSome o (λ e. e.queue ≡ []) → file_of (option_map (refilled (messages_of s x.chain)) o) ≡ file_of o
     by None h = refl
     by (Some e) h = ap AsSocket (refilled_none e (messages_of s x.chain) (none_of s x.chain none) h)
@@ -117,15 +119,37 @@ chains_none s m none = record {
 -- The rows that exist as rows are added, changed in a part other than their chain, and removed.
 pub ruleset chains = (chains_stay, chains_put, chains_taken, chains_none, files_put)
 
--- Of a socket: what it has to receive is in its chain.
-module _ (s : Slab Node) (m : Map FileRow) (f : ℕ) (x : FileRow) (at : map.get m f ≡ Some x) (e : Socket) (is : x.endpoint ≡ Some e) where
-  -- The file is the socket with the messages of its chain.
-  pub shown_is : map.get (files_of s m) f ≡ Some (AsSocket (refilled (messages_of s x.chain) e))
-  shown_is = file_is m f x at s ∙ ap (λ o. Some (file_of (option_map (refilled (messages_of s x.chain)) o))) is
+-- The socket that a row is has the messages of its chain.
+pub socket_at : (s : Slab Node) (m : Map FileRow) (f : ℕ) (x : FileRow) → map.get m f ≡ Some x → socket_in (files_of s m) f ≡ socket_of_row s x
+socket_at s m f x at = ap (option_and_then socket_of) (file_is m f x at s) ∙ by x.kind where
+  by : (o : Option Socket) → socket_of (file_of (option_map (refilled (messages_of s x.chain)) o)) ≡ option_map (refilled (messages_of s x.chain)) o
+  by None = refl
+  by (Some e) = refl
 
-  -- That socket is found there.
-  pub socket_is : socket_in (files_of s m) f ≡ Some (refilled (messages_of s x.chain) e)
-  socket_is = ap (option_and_then socket_of) shown_is
+-- What is true of that socket is true of its kind.
+pub if_socket : (P : Socket → Type 0) (q : List Message) (o r : Option Socket) → r ≡ option_map (refilled q) o → IfSome r P → IfSome o (λ e. P (refilled q e))
+if_socket P q None r is h = tt
+if_socket P q (Some e) r is h = subst (λ z. IfSome z P) is h
+
+-- The messages of a row are those of its chain, if it is a socket.
+pub queue_of_kind : (q : List Message) (o : Option Socket) → queue_of (file_of (option_map (refilled q) o)) ≡ (if is_some o then q else [])
+queue_of_kind q None = refl
+queue_of_kind q (Some e) = refl
+
+-- The embryos of a socket do not depend on its messages.
+pub backlog_of_kind : (q : List Message) (o : Option Socket) → backlog_of (file_of (option_map (refilled q) o)) ≡ embryos_of o
+backlog_of_kind q None = refl
+backlog_of_kind q (Some e) = refl
+
+-- A file changes as its kind does.
+kind_changed : (g : Socket → Socket) (q : List Message) (o : Option Socket) → ((e : Socket) → refilled q (g e) ≡ g (refilled q e)) → file_of (option_map (refilled q) (option_map g o)) ≡ file_with g (file_of (option_map (refilled q) o))
+kind_changed g q None same = refl
+kind_changed g q (Some e) same = ap AsSocket (same e)
+
+-- A file changes as its messages do.
+pub queue_changed : (g : Socket → Socket) (q r : List Message) (o : Option Socket) → ((e : Socket) → o ≡ Some e → refilled r e ≡ g (refilled q e)) → file_of (option_map (refilled r) o) ≡ file_with g (file_of (option_map (refilled q) o))
+queue_changed g q r None same = refl
+queue_changed g q r (Some e) same = ap AsSocket (same e refl)
 
 -- A file's messages change, and all other files' stay where they are.
 module _ (s t : Slab Node) (m : Map FileRow) (f : ℕ) (x y : FileRow) (at : map.get m f ≡ Some x) (h : AreChained s m) (own : IsChain t y.chain) (others : SameElsewhere s x.chain t y.chain) where
@@ -162,7 +186,7 @@ module _ (s t : Slab Node) (m : Map FileRow) (f : ℕ) (x y : FileRow) (at : map
   files_changed = same_map nat_cmp_total nat_cmp-IsAntisymmetric _ _ (λ g. each g (same_or_not g f)) where
     kept : (g : ℕ) → nat_eq g f ≡ false → (q : Option FileRow) → map.get m g ≡ q → option_map (file_in t) q ≡ option_map (file_in s) q
     kept g off None was = refl
-    kept g off (Some z) was = ap (λ q. Some (file_of (option_map (refilled q) z.endpoint))) (stays g z off was).1
+    kept g off (Some z) was = ap (λ q. Some (file_of (option_map (refilled q) z.kind))) (stays g z off was).1
 
     each : (g : ℕ) → (g ≡ f) ⊎ (nat_eq g f ≡ false) → map.get (files_of t (map.insert m f y)) g ≡ map.get (map.insert (files_of s m) f (file_in t y)) g
     each g (inl here) =
@@ -189,21 +213,19 @@ module _ (s t : Slab Node) (m : Map FileRow) (same : SameValues s t) (h : AreCha
     apart = λ f g y z at is off. same_apart s t y.chain z.chain same (h.each f y at) (h.each g z is) (h.apart f g y z at is off);
   }
 
--- A file that is no socket has an empty queue, and no change of a socket changes it.
+-- An unknown file is no socket, and no change of a socket changes it.
 module _ (s : Slab Node) (m : Map FileRow) (f : ℕ) where
   -- An unknown file is no socket.
   pub stranger_is_none : map.get m f ≡ None → socket_in (files_of s m) f ≡ None
   stranger_is_none none = ap (option_and_then socket_of) (part_get (file_in s) m f ∙ ap (option_map (file_in s)) none)
 
-  -- A plain file is no socket.
-  pub plain_is_none : (x : FileRow) → map.get m f ≡ Some x → x.endpoint ≡ None → socket_in (files_of s m) f ≡ None
-  plain_is_none x at none = ap (option_and_then socket_of) (file_is m f x at s) ∙ ap (λ o. socket_of (file_of (option_map (refilled (messages_of s x.chain)) o))) none
-
 -- A socket changes that is written to in its row.
 module _ (s : Slab Node) (m : Map FileRow) (f : ℕ) (g : Socket → Socket) where
   -- The files have the changed socket.
-  pub row_changed : (x y : FileRow) → map.get m f ≡ Some x → file_in s y ≡ file_with g (file_in s x) → files_of s (map.insert m f y) ≡ change_socket_at g (files_of s m) f
-  row_changed x y at is = part_put (file_in s) m f y ∙ lent_changed (files_of s m) f (file_in s x) (file_in s y) (file_is m f x at s) (file_with g) is
+  pub row_changed : (x y : FileRow) → map.get m f ≡ Some x → y.kind ≡ option_map g x.kind → y.chain ≡ x.chain → ((q : List Message) (e : Socket) → refilled q (g e) ≡ g (refilled q e)) → files_of s (map.insert m f y) ≡ change_socket_at g (files_of s m) f
+  row_changed x y at kind chain same = part_put (file_in s) m f y ∙ lent_changed (files_of s m) f (file_in s x) (file_in s y) (file_is m f x at s) (file_with g) changed where
+    changed : file_in s y ≡ file_with g (file_in s x)
+    changed = (λ i. file_of (option_map (refilled (messages_of s (chain i))) (kind i))) ∙ kind_changed g (messages_of s x.chain) x.kind (same (messages_of s x.chain))
 
   -- A change of an unknown file changes nothing.
   pub none_changed : map.get m f ≡ None → files_of s m ≡ change_socket_at g (files_of s m) f

@@ -1,7 +1,9 @@
--- The forms of a socket. The definitions that name no manual page are this project's own.
-use Rattle.std.specs.Prelude.{ℕ, Some, []}
+-- The forms of a file. The definitions that name no manual page are this project's own.
+use Rattle.std.specs.Prelude.{ℕ, List, Option, None, Some, []}
+use Rattle.std.specs.Option.{option_map_or}
 use Rattle.af_base.specs.World.{Socket}
 use Rattle.af_base.specs.Steps.{connected_socket, idle_socket}
+use Rattle.af_base.specs.declared.events.SockType.TheVariants.{Stream}
 use Rattle.af_base.specs.declared.events.State.{State}
 use Rattle.af_base.specs.declared.events.State.TheVariants as state
 use Rattle.af_desc.specs.declared.socket.Form.{Form}
@@ -16,8 +18,9 @@ state_of (Listening most) = state.Listening most
 state_of (Connected peer) = state.Connected peer
 state_of HungUp = state.HungUp
 
--- The socket that a form shows, with an empty queue.
+-- The socket that a form shows, with an empty queue. No clause speaks of that of a plain file.
 abbrev pub shown : Form → Socket
+shown form.Plain = idle_socket Stream
 shown (form.Idle kind) = idle_socket kind
 shown (form.Connected kind peer) = connected_socket kind peer
 shown (form.HungUp kind) = record (idle_socket kind) { state = state.HungUp }
@@ -29,8 +32,21 @@ shown (form.Named kind b) = record {
   backlog = b.value.backlog.waiting;
 }
 
+-- The socket that a file is, with an empty queue; of a plain file none.
+abbrev pub kind_of : Form → Option Socket
+kind_of form.Plain = None
+kind_of (form.Idle kind) = Some (shown (form.Idle kind))
+kind_of (form.Connected kind peer) = Some (shown (form.Connected kind peer))
+kind_of (form.HungUp kind) = Some (shown (form.HungUp kind))
+kind_of (form.Named kind b) = Some (shown (form.Named kind b))
+
+-- The embryos that wait to be accepted; of a plain file none.
+abbrev pub embryos_of : Option Socket → List ℕ
+embryos_of o = option_map_or (λ s. s.backlog) o []
+
 -- How many embryos there is room for.
 abbrev pub most_of : Form → ℕ
+most_of form.Plain = 0
 most_of (form.Idle kind) = 0
 most_of (form.Connected kind peer) = 0
 most_of (form.HungUp kind) = 0

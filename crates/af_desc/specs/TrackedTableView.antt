@@ -71,9 +71,13 @@ file_of o = option_map_or AsSocket o Plain
 abbrev pub refilled : List Message → Socket → Socket
 refilled q s = record s { queue = q }
 
+-- The socket of a row, with the messages of its chain; of a plain file none.
+abbrev pub socket_of_row : Slab Node → FileRow → Option Socket
+socket_of_row s r = option_map (refilled (messages_of s r.chain)) r.kind
+
 -- The file of a row, with the messages of its chain.
 abbrev pub file_in : Slab Node → FileRow → File
-file_in s r = file_of (option_map (refilled (messages_of s r.chain)) r.endpoint)
+file_in s r = file_of (socket_of_row s r)
 
 -- The files of these rows.
 abbrev pub files_of : Slab Node → Map FileRow → Map File

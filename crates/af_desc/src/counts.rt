@@ -163,8 +163,8 @@ impl Files {
         };
         // The pass counts the files below its bound that it has still to mark, and lists the grey.
         if bare && file.ino().0 >= self.bound && self.grey.is_empty() {
-            let (endpoint, _) = self.rows.remove(file, self.epoch);
-            self.hang_up_peer(&endpoint);
+            let (kind, _) = self.rows.remove(file, self.epoch);
+            self.hang_up_peer(&kind);
             return true;
         }
         self.unreferenced.push_reserved(file.duplicate());

@@ -5,14 +5,14 @@ ghost use Rattle.af_base.specs.Changes.{file_with, pushed};
 ghost use Rattle.af_base.specs.Places.{contents, queue_of};
 ghost use Rattle.af_base.specs.Refusals.{socket_of};
 ghost use Rattle.af_base.specs.Whole.{IsMessageWithin};
-ghost use Rattle.af_queue.specs.Chains.{has_room, IsChain, SameElsewhere};
+ghost use Rattle.af_queue.specs.Chains.{has_room, messages_of, IsChain, SameElsewhere};
 ghost use Rattle.af_queue.specs.TakenView.{nothing_received};
 ghost use Rattle.af_desc.specs.FilesView.{IsFirst, name_of, popped, received_from, received_of};
 ghost use Rattle.af_desc.specs.Holding.{IsContents};
-ghost use Rattle.af_desc.specs.TrackedTableView.{file_in};
+ghost use Rattle.af_desc.specs.TrackedTableView.{file_in, socket_of_row};
 
 use crate::contents::Contents;
-use crate::socket::Endpoint;
+use crate::socket::{FileKind, Socket};
 use af_base::ids::Uid;
 use af_base::limits::MAX_MESSAGES;
 use af_ledger::Count;
@@ -24,8 +24,8 @@ use std::alloc::{AllocError, Global};
 /// The row of one file: what it is, its queue, its count, its mark, and whether it is dirty.
 #[derive(Drop)]
 pub struct FileRow {
-    /// Its socket without the queue; `None` for a plain file.
-    pub endpoint: Option<Endpoint>,
+    /// What it is: a plain file, or a socket without its queue.
+    pub kind: FileKind,
     /// The messages of its queue.
     pub chain: Chain,
     /// Its position in the list of those whose readiness may have changed, counted from 1: a hint.
@@ -38,22 +38,32 @@ pub struct FileRow {
 }
 
 impl FileRow {
+    /// Lends the socket that it is; `None` for a plain file.
+    #[inline(always)]
+    pub fn socket<'a>(&'a self, nodes: &'a Slab<Node>) -> Option<Socket<'a>>
+        requires chain { IsChain nodes.now self.now.chain }
+        ensures socket { result ≡ socket_of_row nodes.now self.now }
+        ensures queue { IfSome result (λ s. s.queue ≡ messages_of nodes.now self.now.chain) }
+    {
+        self.kind.socket(Queue::of(nodes, &self.chain))
+    }
+
     /// Returns what it holds, as far as one look tells.
     #[inline(always)]
     pub fn contents(&self, nodes: &Slab<Node>) -> Contents
         requires chain { IsChain nodes.now self.now.chain }
         ensures { IsContents result (contents (file_in nodes.now self.now)) }
     {
-        let Some(endpoint) = &self.endpoint else {
+        let Some(socket) = self.socket(nodes) else {
             return Contents::Nothing;
         };
-        if !endpoint.is_nameless() {
+        if !socket.is_nameless() {
             return Contents::Several;
         }
         if !self.chain.has_files {
             return Contents::Nothing;
         }
-        let Some((message, rest)) = Queue::of(nodes, &self.chain).split_first() else {
+        let Some((message, rest)) = socket.queue().split_first() else {
             return Contents::Nothing;
         };
         match message.attached() {
@@ -71,8 +81,8 @@ impl FileRow {
         ensures silent { result ≡ true → queue_of (file_in nodes.now self.now) ≡ [] }
         ensures bare { result ≡ true → contents (file_in nodes.now self.now) ≡ [] }
     {
-        match &self.endpoint {
-            Some(endpoint) => { endpoint.is_nameless() && Queue::of(nodes, &self.chain).len() == 0 }
+        match self.socket(nodes) {
+            Some(socket) => socket.is_nameless() && socket.queue().len() == 0,
             None => true,
         }
     }
@@ -127,8 +137,6 @@ impl FileRow {
         ensures others { SameElsewhere nodes.old self.old.chain nodes.new self.new.chain }
         ensures rest { self.new ≡ record self.old { chain = self.new.chain } }
     {
-        // Without a way on which it is dropped, a message moves to its node at once.
-        let _endpoint = self.endpoint.as_ref().unwrap();
         pool::push(nodes, &mut self.chain, message);
     }
 
@@ -145,9 +153,9 @@ impl FileRow {
         ensures others { SameElsewhere nodes.old self.old.chain nodes.new self.new.chain }
         ensures rest { self.new ≡ record self.old { chain = self.new.chain } }
     {
-        let Some(_) = &self.endpoint else {
+        if !self.kind.is_socket() {
             return None;
-        };
+        }
         let message = pool::pop(nodes, &mut self.chain)?;
         Some(message.into_parts())
     }
@@ -175,10 +183,10 @@ impl FileRow {
         ensures others { SameElsewhere nodes.old self.old.chain nodes.new self.new.chain }
         ensures rest { self.new ≡ record self.old { chain = self.new.chain } }
     {
-        let Some(endpoint) = &self.endpoint else {
+        let Some(socket) = self.socket(nodes) else {
             return Ok(());
         };
-        let kind = endpoint.kind();
+        let kind = socket.kind();
         pool::take(nodes, &mut self.chain, alloc, kind, max, taken)
     }
 }

@@ -22,13 +22,13 @@ ghost use Rattle.af_queue.specs.TakenView.{nothing_received};
 
 use crate::contents::Contents;
 use crate::file_row::FileRow;
-use crate::socket::{Endpoint, Socket};
+use crate::socket::{FileKind, Socket};
 use af_base::ids::{FileRef, Ino, Uid};
 use af_base::items::Bytes;
 use af_base::limits::{MAX_INO, MAX_MESSAGES};
 use af_ledger::{Count, Place};
 use af_mark::{Color, Mark};
-use af_queue::{Attached, Chain, Msg, Node, Queue, Taken, pool};
+use af_queue::{Attached, Chain, Msg, Node, Taken, pool};
 use ordered_slab::OrderedSlab;
 use slab::Slab;
 use std::alloc::{AllocError, Global};
@@ -120,26 +120,24 @@ impl FileTable {
     /// this place as its first reference. There is room for it.
     #[inline(always)]
     #[tactic(auto, using(crate::proofs::TrackedTableView::chains, ordered_slab::proofs::Parts::parts))]
-    pub fn push(&mut self, ino: Ino, endpoint: Option<Endpoint>, place: &Place) -> FileRef
+    pub fn push(&mut self, ino: Ino, kind: FileKind, place: &Place) -> FileRef
         requires room { 0 < self.old.room }
         requires above { self.old.last < ino }
         requires number { ino ≤ MAX_INO }
         ensures file { result ≡ ino }
         ensures pushed { self.new
-            ≡ with_entry ino (file_of endpoint) place.now self.new.room self.old }
+            ≡ with_entry ino (file_of kind) place.now self.new.room self.old }
         ensures new { map.contains_key self.old.files ino ≡ false }
         ensures uncounted { map.contains_key self.old.counts ino ≡ false }
         ensures unmarked { map.contains_key self.old.marks ino ≡ false }
         ensures clean { map.contains_key self.old.dirty ino ≡ false }
         ensures room { self.old.room ≤ self.new.room + 1 }
     {
-        if let Some(endpoint) = &endpoint {
-            endpoint.lemma_is_silent();
-        }
+        kind.lemma_is_silent();
         let mut count = Count::none();
         count.add(place);
         let row = FileRow {
-            endpoint,
+            kind,
             chain: Chain::empty(),
             dirty_at: 0,
             count,
@@ -148,11 +146,11 @@ impl FileTable {
         self.rows.push(ino, row)
     }
 
-    /// Removes a file whose queue is empty, and returns its socket, if it was one. Returns also
-    /// whether it was known, and unmarked in this pass. Takes no memory.
+    /// Removes a file whose queue is empty, and returns what it was: a plain file, if it is unknown.
+    /// Returns also whether it was known, and unmarked in this pass. Takes no memory.
     #[inline(always)]
     #[tactic(auto, using(crate::proofs::TrackedTableView::chains, ordered_slab::proofs::Parts::parts))]
-    pub fn remove(&mut self, file: &FileRef, epoch: u32) -> (Option<Endpoint>, bool)
+    pub fn remove(&mut self, file: &FileRef, epoch: u32) -> (FileKind, bool)
         requires silent { queue_in self.old.files file.now ≡ [] }
         ensures socket { result.0 ≡ socket_in self.old.files file.now }
         ensures white { result.1 ≡ is_white_in epoch self.old.marks file.now }
@@ -160,13 +158,11 @@ impl FileTable {
         ensures room { self.old.room ≤ self.new.room }
     {
         let Some(row) = self.rows.remove(file) else {
-            return (None, false);
+            return (FileKind::plain(), false);
         };
-        if let Some(endpoint) = &row.endpoint {
-            endpoint.lemma_is_silent();
-        }
+        row.kind.lemma_is_silent();
         let white = matches!(row.mark.color_in(epoch), Color::White);
-        (row.endpoint, white)
+        (row.kind, white)
     }
 
     /// Returns the socket that a file is; `None` for a plain or unknown file.
@@ -175,8 +171,7 @@ impl FileTable {
         ensures { result ≡ socket_in self.now.files file.now }
     {
         let row = self.rows.get(file)?;
-        let endpoint = row.endpoint.as_ref()?;
-        Some(Socket::of(endpoint, Queue::of(&self.nodes, &row.chain)))
+        row.socket(&self.nodes)
     }
 
     /// Returns the counts of a file, if it is known.
@@ -198,10 +193,7 @@ impl FileTable {
         let Some(row) = self.rows.get_mut(file) else {
             return;
         };
-        let Some(endpoint) = &mut row.endpoint else {
-            return;
-        };
-        endpoint.hang_up();
+        row.kind.hang_up();
     }
 
     /// Connects that socket to this peer.
@@ -213,10 +205,7 @@ impl FileTable {
         let Some(row) = self.rows.get_mut(file) else {
             return;
         };
-        let Some(endpoint) = &mut row.endpoint else {
-            return;
-        };
-        endpoint.connect(peer);
+        row.kind.connect(peer);
     }
 
     /// Gives that socket, which has no name, this one. On an error nothing has changed.
@@ -230,10 +219,7 @@ impl FileTable {
         let Some(row) = self.rows.get_mut(file) else {
             return Ok(());
         };
-        let Some(endpoint) = &mut row.endpoint else {
-            return Ok(());
-        };
-        endpoint.bind(alloc, name)
+        row.kind.bind(alloc, name)
     }
 
     /// Makes that socket, which has a name and no embryos, a listener with this backlog. On an
@@ -249,10 +235,7 @@ impl FileTable {
         let Some(row) = self.rows.get_mut(file) else {
             return Ok(());
         };
-        let Some(endpoint) = &mut row.endpoint else {
-            return Ok(());
-        };
-        endpoint.listen(alloc, most)
+        row.kind.listen(alloc, most)
     }
 
     /// Appends an embryo to the backlog of that listener, which has room for it.
@@ -266,10 +249,7 @@ impl FileTable {
         let Some(row) = self.rows.get_mut(file) else {
             return;
         };
-        let Some(endpoint) = &mut row.endpoint else {
-            return;
-        };
-        endpoint.enqueue(embryo);
+        row.kind.enqueue(embryo);
     }
 
     /// Removes the first embryo of that listener, if there is one.
@@ -284,10 +264,7 @@ impl FileTable {
         let Some(row) = self.rows.get_mut(file) else {
             return None;
         };
-        let Some(endpoint) = &mut row.endpoint else {
-            return None;
-        };
-        endpoint.dequeue()
+        row.kind.dequeue()
     }
 
     /// Makes room for one message more, so that the next `push_message` cannot fail.

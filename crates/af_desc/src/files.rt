@@ -21,7 +21,7 @@ ghost use Rattle.af_desc.specs.FilesView.{without};
 ghost use Rattle.af_queue.specs.TakenView.{nothing_received};
 
 use crate::counts::with_embryo;
-use crate::socket::{Endpoint, Socket};
+use crate::socket::{FileKind, Socket};
 use crate::tracked_table::{TrackedTable, widen};
 use af_base::events::SockType;
 use af_base::file_list::swap_remove_file;
@@ -178,15 +178,15 @@ impl Files {
     /// first, so that on an error nothing has changed.
     #[inline(always)]
     #[tactic(auto, using(crate::proofs::FirstNumber::begun))]
-    fn make(&mut self, endpoint: Option<Endpoint>, place: &Place) -> Result<FileRef, AllocError>
+    fn make(&mut self, kind: FileKind, place: &Place) -> Result<FileRef, AllocError>
         requires number { self.old.next < MAX_INO + 1 }
-        requires nameless { name_of (file_of endpoint) ≡ None }
+        requires nameless { name_of (file_of kind) ≡ None }
         ensures ino { IfOk result (λ ino. ino ≡ self.old.next) }
-        ensures ok { OnOk result (self.new ≡ entered place.now (file_of endpoint) self.old) }
+        ensures ok { OnOk result (self.new ≡ entered place.now (file_of kind) self.old) }
         ensures err { OnErr result (self.new ≡ self.old) }
     {
         reserve(&mut self.rows, &mut self.unreferenced, &mut self.grey, 1)?;
-        let file = self.rows.push(Ino(self.next), endpoint, place);
+        let file = self.rows.push(Ino(self.next), kind, place);
         self.embryos = with_embryo(self.embryos, place);
         self.next += 1;
         Ok(file)
@@ -200,7 +200,7 @@ impl Files {
         ensures ok { OnOk result (self.new ≡ entered place.now world.Plain self.old) }
         ensures err { OnErr result (self.new ≡ self.old) }
     {
-        self.make(None, place)
+        self.make(FileKind::plain(), place)
     }
 
     /// Makes a socket that was never connected, under the next number, with this place as its first
@@ -212,7 +212,7 @@ impl Files {
             (self.new ≡ entered place.now (world.AsSocket (idle_socket kind)) self.old) }
         ensures err { OnErr result (self.new ≡ self.old) }
     {
-        self.make(Some(Endpoint::new_idle(kind)), place)
+        self.make(FileKind::new_idle(kind), place)
     }
 
     /// Makes two sockets that are connected to each other (socketpair(2)), under the next two
@@ -231,11 +231,11 @@ impl Files {
         ensures err { OnErr result (self.new ≡ self.old) }
     {
         reserve(&mut self.rows, &mut self.unreferenced, &mut self.grey, 2)?;
-        let idle = Endpoint::new_idle(kind);
-        let first = self.rows.push(Ino(self.next), Some(idle), place);
+        let idle = FileKind::new_idle(kind);
+        let first = self.rows.push(Ino(self.next), idle, place);
         self.embryos = with_embryo(self.embryos, place);
-        let endpoint = Endpoint::new_connected(kind, &first);
-        let second = self.rows.push(Ino(self.next + 1), Some(endpoint), place);
+        let connected = FileKind::new_connected(kind, &first);
+        let second = self.rows.push(Ino(self.next + 1), connected, place);
         self.embryos = with_embryo(self.embryos, place);
         self.rows.connect(&first, &second);
         self.next += 2;
@@ -253,39 +253,36 @@ impl Files {
         ensures gone { self.new ≡ freed file.now self.old }
     {
         self.blacken(file);
-        let (endpoint, unmarked) = self.remove_row(file);
-        self.hang_up_peer(&endpoint);
-        endpoint.is_some() && unmarked
+        let (kind, unmarked) = self.remove_row(file);
+        self.hang_up_peer(&kind);
+        kind.is_socket() && unmarked
     }
 
-    /// Removes a file that is not grey, and returns its socket, and whether the pass had still to
+    /// Removes a file that is not grey, and returns what it was, and whether the pass had still to
     /// mark it.
     #[inline(always)]
     #[tactic(auto, using(crate::proofs::FirstNumber::begun))]
-    fn remove_row(&mut self, file: &FileRef) -> (Option<Endpoint>, bool)
+    fn remove_row(&mut self, file: &FileRef) -> (FileKind, bool)
         requires white { is_grey self.old.marks file.now ≡ false }
         requires silent { queue_in self.old.files file.now ≡ [] }
         ensures socket { result.0 ≡ socket_in self.old.files file.now }
         ensures unmarked { result.1 ≡ is_unmarked self.old.marks file.now }
         ensures gone { self.new ≡ without file.now self.old }
     {
-        let (endpoint, white) = self.rows.remove(file, self.epoch);
+        let (kind, white) = self.rows.remove(file, self.epoch);
         let unmarked = (file.ino().0 < self.bound) & white;
         self.white -= usize::from(unmarked);
         swap_remove_file(&mut self.unreferenced, file.ino(), 0);
-        free_name(&mut self.names, &endpoint);
-        (endpoint, unmarked)
+        free_name(&mut self.names, &kind);
+        (kind, unmarked)
     }
 
-    /// Hangs up the peer of a socket that was removed, if it had one. Takes no memory.
+    /// Hangs up the peer of a file that was removed, if it had one. Takes no memory.
     #[inline(always)]
-    pub(crate) fn hang_up_peer(&mut self, gone: &Option<Endpoint>)
+    pub(crate) fn hang_up_peer(&mut self, gone: &FileKind)
         ensures { self.new ≡ record self.old { files = after_end gone.now self.old.files } }
     {
-        let Some(endpoint) = gone else {
-            return;
-        };
-        if let Some(peer) = endpoint.peer() {
+        if let Some(peer) = gone.peer() {
             self.rows.hang_up(&peer);
         }
     }
@@ -368,7 +365,7 @@ impl Files {
             (entered place.now (world.AsSocket (connected_socket kind client.now)) self.old)) }
         ensures err { OnErr result (self.new ≡ self.old) }
     {
-        let embryo = self.make(Some(Endpoint::new_connected(kind, client)), place)?;
+        let embryo = self.make(FileKind::new_connected(kind, client), place)?;
         self.connect(client, &embryo);
         Ok(embryo)
     }
@@ -558,16 +555,13 @@ fn reserve_anew(
     rows.reserve(files)
 }
 
-/// Frees the name of a socket that was removed, if it had one.
+/// Frees the name of a file that was removed, if it had one.
 #[inline(always)]
-fn free_name(names: &mut Names, gone: &Option<Endpoint>)
+fn free_name(names: &mut Names, gone: &FileKind)
     ensures { (files : world.Map world.File) (f : ℕ) → AreNamed names.old files
         → gone.now ≡ socket_in files f → AreNamed names.new (map.remove files f) }
 {
-    let Some(endpoint) = gone else {
-        return;
-    };
-    if let Some(name) = endpoint.name() {
+    if let Some(name) = gone.name() {
         names.unbind(name.as_slice());
     }
 }

@@ -1,12 +1,14 @@
 //! A socket: what it is but for its queue, and the whole, lent for reading.
 ghost use Rattle.std.specs.Prelude.{◌≡◌, ℕ, ◌∷◌, [], ◌<◌, OnOk, OnErr, IfSome, IfNone, None, false};
-ghost use Rattle.std.specs.Prelude.{true, is_none, length, drop, option_copied, option_map};
-ghost use Rattle.std.specs.Option.{option_map_or};
+ghost use Rattle.std.specs.Prelude.{Some, true, is_none, is_some, length, drop, option_copied};
+ghost use Rattle.std.specs.Prelude.{option_map};
+ghost use Rattle.std.specs.Option.{option_and_then, option_map_or};
 ghost use Rattle.af_base.specs.Changes.{connected, dequeued, listening, queued, with_name};
 ghost use Rattle.af_base.specs.Refusals.{room_of};
 ghost use Rattle.af_base.specs.Steps.{connected_socket, idle_socket};
 ghost use Rattle.af_desc.specs.FilesView.{hung_up};
-ghost use Rattle.af_desc.specs.Form.{state_of};
+ghost use Rattle.af_desc.specs.Form.{embryos_of, shown, state_of};
+ghost use Rattle.af_desc.specs.TrackedTableView.{refilled};
 
 use af_base::events::{SockType, State};
 use af_base::ids::FileRef;
@@ -16,16 +18,19 @@ use af_queue::Queue;
 use std::alloc::{AllocError, Global};
 use std::marker::Model;
 
-/// A socket but for its queue. A contract sees it as a socket with an empty queue.
+/// What a file is, without the queue that a socket has. A contract sees a socket with an empty
+/// queue, and `None` for a plain file.
 #[derive(Drop)]
-pub struct Endpoint {
+pub struct FileKind {
     form: Form,
 }
 
-/// The forms of a socket, each with its type. Most sockets have no name, and take no memory of their
-/// own.
+/// A plain file, or the form of a socket with its type. Most sockets have no name, and take no
+/// memory of their own.
 #[derive(Drop)]
 enum Form {
+    /// Is no socket.
+    Plain,
     /// Has no name, and was never connected.
     Idle(SockType),
     /// Has no name, and is connected to this live peer.
@@ -57,138 +62,134 @@ enum Link {
     HungUp,
 }
 
-impl Model for Endpoint {
-    ghost use Rattle.std.specs.Prelude.{◌≤◌};
+impl Model for FileKind {
+    ghost use Rattle.std.specs.Prelude.{◌≤◌, Option};
     ghost use Rattle.af_base.specs.Refusals.{room_of};
     ghost use Rattle.af_base.specs.World as world;
-    ghost use Rattle.af_desc.specs.Form.{most_of, shown};
+    ghost use Rattle.af_desc.specs.Form.{kind_of, most_of, shown};
 
-    ghost Value = { world.Socket };
+    ghost Value = { Option world.Socket };
 
-    ghost view = { λ a. shown a.form };
+    ghost view = { λ a. kind_of a.form };
 
     ghost invariant = { λ a. room_of (shown a.form).state ≤ most_of a.form };
 }
 
-impl Endpoint {
-    /// Makes the endpoint of a new socket that was never connected.
-    pub fn new_idle(kind: SockType) -> Endpoint
-        ensures { result ≡ idle_socket kind }
+impl FileKind {
+    /// Makes the kind of a plain file.
+    #[inline(always)]
+    pub fn plain() -> FileKind
+        ensures { result ≡ None }
     {
-        Endpoint {
+        FileKind { form: Form::Plain }
+    }
+
+    /// Makes a new socket that was never connected.
+    pub fn new_idle(kind: SockType) -> FileKind
+        ensures { result ≡ Some (idle_socket kind) }
+    {
+        FileKind {
             form: Form::Idle(kind),
         }
     }
 
-    /// Makes the endpoint of a new socket that is connected to that one.
-    pub fn new_connected(kind: SockType, peer: &FileRef) -> Endpoint
-        ensures { result ≡ connected_socket kind peer.now }
+    /// Makes a new socket that is connected to that one.
+    pub fn new_connected(kind: SockType, peer: &FileRef) -> FileKind
+        ensures { result ≡ Some (connected_socket kind peer.now) }
     {
-        Endpoint {
+        FileKind {
             form: Form::Connected(kind, peer.duplicate()),
         }
     }
 
     /// Does nothing at run time. Shows that the queue here is empty.
     pub fn lemma_is_silent(&self)
-        ensures { self.now.queue ≡ [] }
+        ensures { IfSome self.now (λ s. s.queue ≡ []) }
     {
         // Each form says it.
         match &self.form {
-            Form::Idle(_) | Form::Connected(_, _) | Form::HungUp(_) | Form::Named(_, _) => {}
+            Form::Plain
+            | Form::Idle(_)
+            | Form::Connected(_, _)
+            | Form::HungUp(_)
+            | Form::Named(_, _) => {}
         }
     }
 
-    /// Returns whether it has no name. If so, no embryo waits in its backlog.
+    /// Returns whether it is a socket.
     #[inline(always)]
-    pub fn is_nameless(&self) -> bool
-        ensures name { result ≡ is_none self.now.name }
-        ensures backlog { result ≡ true → self.now.backlog ≡ [] }
+    pub fn is_socket(&self) -> bool
+        ensures { result ≡ is_some self.now }
     {
-        !matches!(&self.form, Form::Named(_, _))
+        !matches!(&self.form, Form::Plain)
     }
 
-    /// Returns its type.
+    /// Returns its form, if it is a socket.
     #[inline(always)]
-    pub fn kind(&self) -> SockType
-        ensures { result ≡ self.now.kind }
+    fn socket_form(&self) -> Option<&Form>
+        ensures { option_map (λ f. shown f.now) result ≡ self.now }
     {
         match &self.form {
-            Form::Idle(kind)
-            | Form::Connected(kind, _)
-            | Form::HungUp(kind)
-            | Form::Named(kind, _) => *kind,
+            Form::Plain => None,
+            Form::Idle(_) | Form::Connected(_, _) | Form::HungUp(_) | Form::Named(_, _) => {
+                Some(&self.form)
+            }
         }
     }
 
-    /// Returns its connection state.
+    /// Lends the socket that it is, with this queue; `None` for a plain file.
     #[inline(always)]
-    fn state(&self) -> State
-        ensures { result ≡ self.now.state }
+    pub fn socket<'a>(&'a self, queue: Queue<'a>) -> Option<Socket<'a>>
+        ensures { result ≡ option_map (refilled queue.entry) self.now }
     {
-        match &self.form {
-            Form::Idle(_) => State::Idle,
-            Form::Connected(_, peer) => State::Connected(peer.ino()),
-            Form::HungUp(_) => State::HungUp,
-            Form::Named(_, socket) => socket.link.state(),
-        }
-    }
-
-    /// Returns a copy of its connection state, which finds the peer as a file.
-    fn link(&self) -> Link
-        ensures { state_of result ≡ self.now.state }
-    {
-        match &self.form {
-            Form::Idle(_) => Link::Idle,
-            Form::Connected(_, peer) => Link::Connected(peer.duplicate()),
-            Form::HungUp(_) => Link::HungUp,
-            Form::Named(_, socket) => socket.link.duplicate(),
-        }
+        let form = self.socket_form()?;
+        Some(Socket { form, queue })
     }
 
     /// Returns its peer, if it is connected and the peer is live.
     #[inline(always)]
     pub fn peer(&self) -> Option<FileRef>
-        ensures some { IfSome result (λ peer. self.now.state ≡ State.Connected peer) }
-        ensures none { IfNone result ((peer : ℕ) → ¬ (self.now.state ≡ State.Connected peer)) }
+        ensures some { IfSome result (λ peer.
+            option_map (λ s. s.state) self.now ≡ Some (State.Connected peer)) }
+        ensures none { IfNone result
+            ((peer : ℕ) → ¬ (option_map (λ s. s.state) self.now ≡ Some (State.Connected peer))) }
     {
-        match &self.form {
-            Form::Connected(_, peer) => Some(peer.duplicate()),
-            Form::Idle(_) | Form::HungUp(_) => None,
-            Form::Named(_, socket) => socket.link.peer(),
-        }
+        self.socket_form()?.peer()
     }
 
     /// Returns its abstract name, if it has one (unix(7)).
     #[inline(always)]
     pub fn name(&self) -> Option<&Bytes>
-        ensures { option_copied result ≡ self.now.name }
+        ensures { option_copied result ≡ option_and_then (λ s. s.name) self.now }
     {
-        let socket = self.named()?;
+        let socket = self.socket_form()?.named()?;
         Some(&socket.name)
     }
 
-    /// Sets its name. On an error nothing has changed.
+    /// Sets the name of a socket. On an error nothing has changed.
     pub fn bind(&mut self, alloc: Global, name: Bytes) -> Result<(), AllocError>
-        requires { self.old.name ≡ None }
-        ensures ok { OnOk result (self.new ≡ with_name name self.old) }
+        requires { IfSome self.old (λ s. s.name ≡ None) }
+        ensures ok { OnOk result (self.new ≡ option_map (with_name name) self.old) }
         ensures err { OnErr result (self.new ≡ self.old) }
     {
+        let Some(form) = self.socket_form() else {
+            return Ok(());
+        };
         let socket = NamedSocket {
-            link: self.link(),
+            link: form.link(),
             name,
             backlog: Backlog::none(alloc),
         };
-        self.form = Form::Named(self.kind(), Box::new(alloc, socket)?);
+        self.form = Form::Named(form.kind(), Box::new(alloc, socket)?);
         Ok(())
     }
 
-    /// Makes it a listener with this backlog; it has a name and no embryos. On an error nothing has
-    /// changed.
+    /// Makes a socket a listener with this backlog; it has a name and no embryos. On an error
+    /// nothing has changed.
     pub fn listen(&mut self, alloc: Global, most: u32) -> Result<(), AllocError>
-        requires named { is_none self.old.name ≡ false }
-        requires nobody { self.old.backlog ≡ [] }
-        ensures ok { OnOk result (self.new ≡ listening most self.old) }
+        requires named { IfSome self.old (λ s. is_none s.name ≡ false) }
+        requires nobody { IfSome self.old (λ s. s.backlog ≡ []) }
+        ensures ok { OnOk result (self.new ≡ option_map (listening most) self.old) }
         ensures err { OnErr result (self.new ≡ self.old) }
     {
         let backlog = Backlog::new(alloc, most)?;
@@ -199,32 +200,33 @@ impl Endpoint {
         Ok(())
     }
 
-    /// Connects it to that socket. Takes no memory.
+    /// Connects a socket to that one. Takes no memory.
     pub fn connect(&mut self, peer: &FileRef)
-        ensures { self.new ≡ connected peer.now self.old }
+        ensures { self.new ≡ option_map (connected peer.now) self.old }
     {
         match &mut self.form {
+            Form::Plain => {}
             Form::Named(_, socket) => socket.link = Link::Connected(peer.duplicate()),
-            _ => self.form = Form::Connected(self.kind(), peer.duplicate()),
+            _ => self.form = Form::Connected(self.form.kind(), peer.duplicate()),
         }
     }
 
-    /// Appends an embryo. Takes no memory.
+    /// Appends an embryo to the backlog of a socket. Takes no memory.
     pub fn enqueue(&mut self, embryo: FileRef)
-        requires { length self.old.backlog < room_of self.old.state }
-        ensures { self.new ≡ queued embryo self.old }
+        requires { IfSome self.old (λ s. length s.backlog < room_of s.state) }
+        ensures { self.new ≡ option_map (queued embryo) self.old }
     {
         if let Form::Named(_, socket) = &mut self.form {
             socket.backlog.enqueue(embryo);
         }
     }
 
-    /// Removes the first embryo, if there is one. Takes no memory.
+    /// Removes the first embryo of a socket, if there is one. Takes no memory.
     #[inline(always)]
     pub fn dequeue(&mut self) -> Option<FileRef>
-        ensures some { IfSome result (λ f. self.old.backlog ≡ f ∷ drop 1 self.old.backlog) }
-        ensures none { IfNone result (self.old.backlog ≡ []) }
-        ensures rest { self.new ≡ dequeued self.old }
+        ensures some { IfSome result (λ f. embryos_of self.old ≡ f ∷ drop 1 (embryos_of self.old)) }
+        ensures none { IfNone result (embryos_of self.old ≡ []) }
+        ensures rest { self.new ≡ option_map dequeued self.old }
     {
         match &mut self.form {
             Form::Named(_, socket) => socket.backlog.dequeue(),
@@ -232,25 +234,82 @@ impl Endpoint {
         }
     }
 
-    /// Records that the peer was freed.
+    /// Records that the peer of a socket was freed.
     pub fn hang_up(&mut self)
-        ensures { self.new ≡ hung_up self.old }
+        ensures { self.new ≡ option_map hung_up self.old }
     {
         match &mut self.form {
+            Form::Plain => {}
             Form::Named(_, socket) => socket.link = Link::HungUp,
-            _ => self.form = Form::HungUp(self.kind()),
+            _ => self.form = Form::HungUp(self.form.kind()),
+        }
+    }
+}
+
+impl Form {
+    /// Returns its type.
+    #[inline(always)]
+    fn kind(&self) -> SockType
+        ensures { result ≡ (shown self.now).kind }
+    {
+        match self {
+            Form::Plain => SockType::Stream,
+            Form::Idle(kind)
+            | Form::Connected(kind, _)
+            | Form::HungUp(kind)
+            | Form::Named(kind, _) => *kind,
+        }
+    }
+
+    /// Returns its connection state.
+    #[inline(always)]
+    fn state(&self) -> State
+        ensures { result ≡ (shown self.now).state }
+    {
+        match self {
+            Form::Plain | Form::Idle(_) => State::Idle,
+            Form::Connected(_, peer) => State::Connected(peer.ino()),
+            Form::HungUp(_) => State::HungUp,
+            Form::Named(_, socket) => socket.link.state(),
+        }
+    }
+
+    /// Returns a copy of its connection state, which finds the peer as a file.
+    fn link(&self) -> Link
+        ensures { state_of result ≡ (shown self.now).state }
+    {
+        match self {
+            Form::Plain | Form::Idle(_) => Link::Idle,
+            Form::Connected(_, peer) => Link::Connected(peer.duplicate()),
+            Form::HungUp(_) => Link::HungUp,
+            Form::Named(_, socket) => socket.link.duplicate(),
+        }
+    }
+
+    /// Returns its peer, if it is connected and the peer is live.
+    #[inline(always)]
+    fn peer(&self) -> Option<FileRef>
+        ensures some { IfSome result (λ peer. (shown self.now).state ≡ State.Connected peer) }
+        ensures none { IfNone result
+            ((peer : ℕ) → ¬ ((shown self.now).state ≡ State.Connected peer)) }
+    {
+        match self {
+            Form::Connected(_, peer) => Some(peer.duplicate()),
+            Form::Plain | Form::Idle(_) | Form::HungUp(_) => None,
+            Form::Named(_, socket) => socket.link.peer(),
         }
     }
 
     /// Returns its parts, if it has a name.
     #[inline(always)]
     fn named(&self) -> Option<&NamedSocket>
-        ensures name { option_map (λ s. s.now.name) result ≡ self.now.name }
-        ensures backlog { option_map_or (λ s. s.now.backlog.waiting) result [] ≡ self.now.backlog }
+        ensures name { option_map (λ s. s.now.name) result ≡ (shown self.now).name }
+        ensures backlog { option_map_or (λ s. s.now.backlog.waiting) result []
+            ≡ (shown self.now).backlog }
     {
-        match &self.form {
+        match self {
             Form::Named(_, socket) => Some(socket),
-            Form::Idle(_) | Form::Connected(_, _) | Form::HungUp(_) => None,
+            Form::Plain | Form::Idle(_) | Form::Connected(_, _) | Form::HungUp(_) => None,
         }
     }
 }
@@ -297,33 +356,26 @@ impl Link {
 /// A socket, lent for reading: what it is, and what it has to receive.
 #[derive(Drop)]
 pub struct Socket<'a> {
-    endpoint: &'a Endpoint,
+    form: &'a Form,
     queue: Queue<'a>,
 }
 
 impl<'a> Model for Socket<'a> {
     ghost use Rattle.af_base.specs.World as world;
+    ghost use Rattle.af_desc.specs.Form.{shown};
 
     ghost Value = { world.Socket };
 
-    ghost view = { λ a. record a.endpoint.now { queue = a.queue } };
+    ghost view = { λ a. record (shown a.form.now) { queue = a.queue } };
 }
 
 impl<'a> Socket<'a> {
-    /// Makes a socket of these two.
-    #[inline(always)]
-    pub(crate) fn of(endpoint: &'a Endpoint, queue: Queue<'a>) -> Socket<'a>
-        ensures { result ≡ record endpoint.now { queue = queue.entry } }
-    {
-        Socket { endpoint, queue }
-    }
-
     /// Returns its type.
     #[inline(always)]
     pub fn kind(&self) -> SockType
         ensures { result ≡ self.now.kind }
     {
-        self.endpoint.kind()
+        self.form.kind()
     }
 
     /// Returns its connection state.
@@ -331,7 +383,7 @@ impl<'a> Socket<'a> {
     pub fn state(&self) -> State
         ensures { result ≡ self.now.state }
     {
-        self.endpoint.state()
+        self.form.state()
     }
 
     /// Returns its peer, if it is connected and the peer is live.
@@ -340,7 +392,7 @@ impl<'a> Socket<'a> {
         ensures some { IfSome result (λ peer. self.now.state ≡ State.Connected peer) }
         ensures none { IfNone result ((peer : ℕ) → ¬ (self.now.state ≡ State.Connected peer)) }
     {
-        self.endpoint.peer()
+        self.form.peer()
     }
 
     /// Returns its queue.
@@ -356,7 +408,17 @@ impl<'a> Socket<'a> {
     pub fn name(&self) -> Option<&'a Bytes>
         ensures { option_copied result ≡ self.now.name }
     {
-        self.endpoint.name()
+        let socket = self.form.named()?;
+        Some(&socket.name)
+    }
+
+    /// Returns whether it has no name. If so, no embryo waits in its backlog.
+    #[inline(always)]
+    pub fn is_nameless(&self) -> bool
+        ensures name { result ≡ is_none self.now.name }
+        ensures backlog { result ≡ true → self.now.backlog ≡ [] }
+    {
+        !matches!(self.form, Form::Named(_, _))
     }
 
     /// Returns its backlog, if it has a name; without one it has none.
@@ -365,8 +427,7 @@ impl<'a> Socket<'a> {
         ensures some { IfSome result (λ b. b.now.waiting ≡ self.now.backlog) }
         ensures none { IfNone result (self.now.backlog ≡ []) }
     {
-        let endpoint = self.endpoint;
-        let socket = endpoint.named()?;
+        let socket = self.form.named()?;
         Some(&socket.backlog)
     }
 

@@ -25,7 +25,7 @@ ghost use Rattle.af_queue.specs.TakenView.{nothing_received};
 
 use crate::contents::Contents;
 use crate::file_table::FileTable;
-use crate::socket::Endpoint;
+use crate::socket::FileKind;
 use af_base::file_list::swap_remove_file;
 use af_base::ids::{FileRef, Ino, Uid};
 use af_base::items::Bytes;
@@ -189,13 +189,13 @@ impl TrackedTable {
     /// Adds a file, under the number after the last, with an empty queue, unmarked, and with this
     /// place as its first reference. There is room for it, also in the lists.
     #[inline(always)]
-    pub fn push(&mut self, ino: Ino, endpoint: Option<Endpoint>, place: &Place) -> FileRef
+    pub fn push(&mut self, ino: Ino, kind: FileKind, place: &Place) -> FileRef
         requires room { 0 < self.old.room }
         requires next { ino ≡ self.old.last + 1 }
         requires number { ino ≤ MAX_INO }
         ensures file { result ≡ ino }
         ensures pushed { self.new
-            ≡ with_row ino (file_of endpoint) place.now self.new.room self.old }
+            ≡ with_row ino (file_of kind) place.now self.new.room self.old }
         ensures new { map.contains_key self.old.files ino ≡ false }
         ensures uncounted { map.contains_key self.old.counts ino ≡ false }
         ensures unmarked { map.contains_key self.old.marks ino ≡ false }
@@ -203,8 +203,8 @@ impl TrackedTable {
     {
         self.table.lemma_are_one();
         // A plain file is never listed as changed: it is always ready.
-        let is_socket = endpoint.is_some();
-        let file = self.table.push(ino, endpoint, place);
+        let is_socket = kind.is_socket();
+        let file = self.table.push(ino, kind, place);
         self.room -= 1;
         add_dirty(
             self.tells_changed && is_socket,
@@ -215,10 +215,10 @@ impl TrackedTable {
         file
     }
 
-    /// Removes a file whose queue is empty, and returns its socket, if it was one. Returns also
-    /// whether it was known, and unmarked in this pass. Takes no memory.
+    /// Removes a file whose queue is empty, and returns what it was: a plain file, if it is unknown.
+    /// Returns also whether it was known, and unmarked in this pass. Takes no memory.
     #[inline(always)]
-    pub fn remove(&mut self, file: &FileRef, epoch: u32) -> (Option<Endpoint>, bool)
+    pub fn remove(&mut self, file: &FileRef, epoch: u32) -> (FileKind, bool)
         requires silent { queue_in self.old.files file.now ≡ [] }
         ensures socket { result.0 ≡ socket_in self.old.files file.now }
         ensures white { result.1 ≡ is_white_in epoch self.old.marks file.now }

@@ -6,17 +6,13 @@ use Rattle.af_desc.proofs.FileNames.{name-at, named-freed, named-gone}
 use Rattle.af_desc.proofs.files.free_name.Goals as goal
 
 -- The name is freed with its socket.
-pub returns-in-Some-name : goal.returns-in-Some-name
-returns-in-Some-name c = λ files f named same.
-    let had = ap (option_and_then (λ s. s.name)) (sym same ∙ c.in-Some.is) ∙ sym c.name.ensures ∙ ap option_copied c.in-Some-name.is in
-    subst (λ n. AreNamed n (map.remove files f)) (sym (c.unbind.ensures ∙ ap (map.remove c.args.names.now) c.as_slice.ensures)) (named-freed c.args.names.now files named c.in-Some-name.name.now f had)
+pub returns-in-Some : goal.returns-in-Some
+returns-in-Some c = λ files f named same.
+    let had = ap (option_and_then (λ s. s.name)) (sym same) ∙ sym c.name.ensures ∙ ap option_copied c.in-Some.is in
+    subst (λ n. AreNamed n (map.remove files f)) (sym (c.unbind.ensures ∙ ap (map.remove c.args.names.now) c.as_slice.ensures)) (named-freed c.args.names.now files named c.in-Some.name.now f had)
 
 -- It had none.
-pub returns-in_default-name : goal.returns-in_default-name
-returns-in_default-name c = λ files f named same.
-    let none = ap (option_and_then (λ s. s.name)) (sym same ∙ c.in-Some.is) ∙ sym c.name.ensures ∙ ap option_copied c.in_default-name.is in
-    named-gone c.args.names.now files named f (sym (name-at files f _ refl) ∙ none)
-
--- It was no socket.
 pub returns-in_default : goal.returns-in_default
-returns-in_default c = λ files f named same. named-gone c.args.names.now files named f (sym (name-at files f _ refl) ∙ ap (option_and_then (λ s. s.name)) (sym same ∙ c.in_default.is))
+returns-in_default c = λ files f named same.
+    let none = ap (option_and_then (λ s. s.name)) (sym same) ∙ sym c.name.ensures ∙ ap option_copied c.in_default.is in
+    named-gone c.args.names.now files named f (sym (name-at files f _ refl) ∙ none)

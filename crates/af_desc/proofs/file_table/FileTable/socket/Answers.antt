@@ -2,10 +2,10 @@ use Rattle.std.proofs.Common.{◌≡◌, ◌∙◌, sym, ap}
 use Rattle.std.specs.Prelude.{Some, None}
 use Rattle.std.specs.FinMap as map
 use Rattle.std.specs.Option.{option_copied}
+use Rattle.af_base.specs.Refusals.{socket_of}
 use Rattle.af_desc.specs.FilesView.{socket_in}
 use Rattle.af_desc.specs.FileTableView.{FileTableView}
-use Rattle.af_desc.specs.TrackedTableView.{refilled}
-use Rattle.af_desc.proofs.TrackedTableView.{plain_is_none, socket_is, stranger_is_none}
+use Rattle.af_desc.proofs.TrackedTableView.{socket_at, stranger_is_none}
 use Rattle.af_desc.proofs.file_table.FileTable.socket.Goals as goal
 
 pub returns-in_err-row : goal.returns-in_err-row
@@ -14,16 +14,8 @@ returns-in_err-row c =
     let at : map.get a.rows.values c.args.file.now ≡ None = sym c.get.ensures ∙ ap option_copied c.in_err-row.was in
     c.from_residual.ensures ∙ sym (stranger_is_none a.nodes a.rows.values c.args.file.now at) ∙ ap (λ (v : FileTableView). socket_in v.files c.args.file.now) c.self.view_is
 
-pub returns-in_err-endpoint : goal.returns-in_err-endpoint
-returns-in_err-endpoint c =
-    let a = c.self.inside in
-    let x = c.in_ok-row.row.now in
-    let at : map.get a.rows.values c.args.file.now ≡ Some x = sym c.get.ensures ∙ ap option_copied c.in_ok-row.was in
-    let none : x.endpoint ≡ None = sym c.as_ref.ensures.value ∙ ap option_copied c.in_err-endpoint.was in
-    c.from_residual-in_err-endpoint.ensures ∙ sym (plain_is_none a.nodes a.rows.values c.args.file.now x at none) ∙ ap (λ (v : FileTableView). socket_in v.files c.args.file.now) c.self.view_is
-
-pub of-requires : goal.of-requires
-of-requires c =
+pub socket-requires : goal.socket-requires
+socket-requires c =
     let at : map.get c.self.inside.rows.values c.args.file.now ≡ Some c.in_ok-row.row.now = sym c.get.ensures ∙ ap option_copied c.in_ok-row.was in
     record { chain = c.self.invariant.each c.args.file.now c.in_ok-row.row.now at }
 
@@ -31,7 +23,5 @@ pub returns : goal.returns
 returns c =
     let a = c.self.inside in
     let x = c.in_ok-row.row.now in
-    let e = c.in_ok-endpoint.endpoint.now in
     let at : map.get a.rows.values c.args.file.now ≡ Some x = sym c.get.ensures ∙ ap option_copied c.in_ok-row.was in
-    let is : x.endpoint ≡ Some e = sym c.as_ref.ensures.value ∙ ap option_copied c.in_ok-endpoint.was in
-    ap Some (c.of-2.ensures ∙ ap (λ q. refilled q e) c.of.ensures) ∙ sym (socket_is a.nodes a.rows.values c.args.file.now x at e is) ∙ ap (λ (v : FileTableView). socket_in v.files c.args.file.now) c.self.view_is
+    c.socket.ensures.socket ∙ sym (socket_at a.nodes a.rows.values c.args.file.now x at) ∙ ap (λ (v : FileTableView). socket_in v.files c.args.file.now) c.self.view_is

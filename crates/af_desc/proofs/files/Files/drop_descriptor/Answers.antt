@@ -81,7 +81,7 @@ invariant_of-self-then-is_empty c =
     let none : length a.grey.items ≡ 0 = search rules in
     let nameless = ap (λ r. name_in r.files k) one.counts ∙ one.nameless (c.in-Some.is ∙ ap Some c.if-bare.true) in
     let few = (white-gone rows.marks rows.marks a.epoch a.bound a.next a.white h.whites k k _ _ refl refl refl).1 in
-    filed-removed rows c.remove-endpoint.new.self _ _ _ _ _ _ _ h k a.names a.unreferenced.items (vec_capacity a.unreferenced) c.remove-endpoint.ensures.removed c.remove-endpoint.ensures.space
+    filed-removed rows c.remove-kind.new.self _ _ _ _ _ _ _ h k a.names a.unreferenced.items (vec_capacity a.unreferenced) c.remove-kind.ensures.removed c.remove-kind.ensures.space
     (named-gone a.names rows.files h.named k (sym (name-at rows.files k (map.get rows.files k) refl) ∙ nameless)) (struck-last a.unreferenced.items k) (omega arith) (none-grey _ a.grey.items k none h.listed.1) a.white (omega (arith, few))
 
 pub returns-then-is_empty-clause-removed : goal.returns-then-is_empty-clause-removed
@@ -89,8 +89,8 @@ returns-then-is_empty-clause-removed c = λ _.
     let a = c.self.inside in
     let k = c.args.file.now in
     let rows = c.sub_descriptor.new.self in
-    let gone = ap (λ r. seen a.epoch a.bound r a.next) c.remove-endpoint.ensures.removed ∙ seen-without a.epoch a.bound rows a.next c.remove-endpoint.new.self.room c.remove-endpoint.new.self.space k in
+    let gone = ap (λ r. seen a.epoch a.bound r a.next) c.remove-kind.ensures.removed ∙ seen-without a.epoch a.bound rows a.next c.remove-kind.new.self.room c.remove-kind.new.self.space k in
     let left = ap (λ r. seen a.epoch a.bound r a.next) c.sub_descriptor.ensures.counts ∙ ap (without_file_ref Table k) c.self.view_is in
-    c.hang_up_peer.ensures ∙ ap (λ (v : FilesView). record v { files = after_end c.remove-endpoint.result.0 v.files }) gone
-    ∙ ap {B = FilesView} (λ o. record (without k (seen a.epoch a.bound rows a.next)) { files = after_end o (map.remove rows.files k) }) c.remove-endpoint.ensures.socket
+    c.hang_up_peer.ensures ∙ ap (λ (v : FilesView). record v { files = after_end c.remove-kind.result.0 v.files }) gone
+    ∙ ap {B = FilesView} (λ o. record (without k (seen a.epoch a.bound rows a.next)) { files = after_end o (map.remove rows.files k) }) c.remove-kind.ensures.socket
     ∙ ap (freed k) left

@@ -28,13 +28,13 @@ invariant_of-self-2 c =
     let p = c.push-file.ensures in
     let all = c.in_ok-reserve.ensures.counts in
     let marks = c.in_ok-reserve.ensures.marks in
-    filed-entered c.reserve.new.rows c.push-file.new.self _ _ _ _ _ _ _ reserved (file_of c.args.endpoint) c.args.place.now p.pushed p.new p.uncounted p.unmarked c.requires.nameless
+    filed-entered c.reserve.new.rows c.push-file.new.self _ _ _ _ _ _ _ reserved (file_of c.args.kind) c.args.place.now p.pushed p.new p.uncounted p.unmarked c.requires.nameless
     (omega (arith, all, more.fits, ap (λ r. map.len r.counts) more.rows)) (omega (arith, marks, more.grey_fits, ap (λ r. map.len r.marks) more.rows)) _ c.with_embryo-self-inside.ensures
 
 pub returns-clause-ok : goal.returns-clause-ok
 returns-clause-ok c =
     let a = c.self.inside in
-    let x = file_of c.args.endpoint in
+    let x = file_of c.args.kind in
     let p = c.args.place.now in
     let rows = c.push-file.ensures.pushed ∙ ap (with_row a.next x p c.push-file.new.self.room) c.reserve.ensures.rows in
     ap (λ r. seen a.epoch a.bound r (a.next + 1)) rows ∙ seen-entered a.epoch a.bound p a.rows a.next c.push-file.new.self.room x ∙ ap (entered p x) c.self.view_is

@@ -13,8 +13,8 @@ use Rattle.af_base.proofs.AllowedSteps.{get-change_at}
 use Rattle.af_base.proofs.StaysWithin.{len-insert_most}
 use Rattle.af_ledger.specs.Counted.{more, uncounted}
 use Rattle.af_mark.specs.Grey.{unmarked}
-use Rattle.af_desc.specs.FilesView.{FilesView, changed, entered, paired}
-use Rattle.af_desc.specs.TrackedTableView.{with_row, with_socket}
+use Rattle.af_desc.specs.FilesView.{FilesView, changed, entered, name_of, paired}
+use Rattle.af_desc.specs.TrackedTableView.{file_of, with_row, with_socket}
 use Rattle.af_desc.proofs.FilesInvariant.{filed-entered, filed-reserved, seen, seen-entered, socket_changed}
 use Rattle.af_desc.proofs.files.Files.make_two.Goals as goal
 
@@ -54,9 +54,9 @@ invariant_of-self-2 c =
     let counts = ap (λ r. map.len r.counts) roomy.rows in
     let greys = c.in_ok-reserve.ensures.marks in
     let marks = ap (λ r. map.len r.marks) roomy.rows in
-    let one = filed-entered c.reserve.new.rows first.new.self _ _ _ _ _ _ _ reserved (AsSocket c.new_idle-idle.result) p first.ensures.pushed first.ensures.new first.ensures.uncounted first.ensures.unmarked (ap (λ s. s.name) c.new_idle-idle.ensures)
+    let one = filed-entered c.reserve.new.rows first.new.self _ _ _ _ _ _ _ reserved (file_of c.new_idle-idle.result) p first.ensures.pushed first.ensures.new first.ensures.uncounted first.ensures.unmarked (ap (λ o. name_of (file_of o)) c.new_idle-idle.ensures)
     (omega (arith, fits, roomy.fits, counts)) (omega (arith, greys, roomy.grey_fits, marks)) _ c.with_embryo-self-inside.ensures in
-    let two = filed-entered first.new.self second.new.self _ _ _ _ _ _ _ one (AsSocket c.new_connected-endpoint.result) p second.ensures.pushed second.ensures.new second.ensures.uncounted second.ensures.unmarked (ap (λ s. s.name) c.new_connected-endpoint.ensures)
+    let two = filed-entered first.new.self second.new.self _ _ _ _ _ _ _ one (file_of c.new_connected-connected.result) p second.ensures.pushed second.ensures.new second.ensures.uncounted second.ensures.unmarked (ap (λ o. name_of (file_of o)) c.new_connected-connected.ensures)
     (omega (arith, fits, roomy.fits, counts, ap (λ r. map.len r.counts) first.ensures.pushed, len-insert_most c.reserve.new.rows.counts a.next (more p uncounted)))
     (omega (arith, greys, roomy.grey_fits, marks, ap (λ r. map.len r.marks) first.ensures.pushed, len-insert_most c.reserve.new.rows.marks a.next unmarked)) _ c.with_embryo-self-inside-2.ensures in
     let all = socket_changed second.new.self c.connect.new.self _ _ _ _ _ _ _ two c.push-first.result (connected c.push-second.result) (λ s. refl) c.connect.ensures in
@@ -91,10 +91,10 @@ returns-clause-ok c =
     let kind = c.args.kind in
     let first = c.push-first in
     let second = c.push-second in
-    let x = AsSocket c.new_idle-idle.result in
-    let y = AsSocket c.new_connected-endpoint.result in
-    let lower : c.new_idle-idle.result ≡ idle_socket kind = search rules in
-    let higher : c.new_connected-endpoint.result ≡ connected_socket kind n = search rules in
+    let x = file_of c.new_idle-idle.result in
+    let y = file_of c.new_connected-connected.result in
+    let lower : c.new_idle-idle.result ≡ Some (idle_socket kind) = search rules in
+    let higher : c.new_connected-connected.result ≡ Some (connected_socket kind n) = search rules in
     let one = with_row n x p first.new.self.room a.rows in
     let two = second.ensures.pushed ∙ ap (with_row (n + 1) y p second.new.self.room) (first.ensures.pushed ∙ ap (with_row n x p first.new.self.room) c.reserve.ensures.rows) in
     let rows = c.connect.ensures ∙ (λ i. with_socket (two i) (first.ensures.file i) (connected (second.ensures.file i))) in
@@ -102,6 +102,6 @@ returns-clause-ok c =
     let old = seen a.epoch a.bound a.rows n in
     (λ i. seen a.epoch a.bound (rows i) (next i))
     ∙ ap (changed (connected (n + 1)) n) (seen-entered a.epoch a.bound p one (n + 1) second.new.self.room y ∙ ap (entered p y) (seen-entered a.epoch a.bound p a.rows n first.new.self.room x))
-    ∙ (λ i. changed (connected (n + 1)) n (entered p (AsSocket (higher i)) (entered p (AsSocket (lower i)) old)))
+    ∙ (λ i. changed (connected (n + 1)) n (entered p (file_of (higher i)) (entered p (file_of (lower i)) old)))
     ∙ ap {B = FilesView} (λ files. record (paired p kind old) { files = files }) (first_connected old.files n (n + 1) (idle_socket kind) (AsSocket (connected_socket kind n)))
     ∙ ap (paired p kind) c.self.view_is

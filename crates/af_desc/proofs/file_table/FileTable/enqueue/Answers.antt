@@ -1,0 +1,16 @@
+use Rattle.std.proofs.Common.{◌<◌, length, sym, ap, ◌∙◌}
+use Rattle.std.specs.Option.{option_copied_mut}
+use Rattle.af_base.specs.Refusals.{room_of}
+use Rattle.af_queue.specs.Chains.{messages_of}
+use Rattle.af_desc.specs.FilesView.{socket_in}
+use Rattle.af_desc.specs.FileTableView.{FileTableView}
+use Rattle.af_desc.proofs.TrackedTableView.{if_socket, socket_at}
+use Rattle.af_desc.proofs.file_table.FileTable.enqueue.Goals as goal
+
+pub enqueue-requires : goal.enqueue-requires
+enqueue-requires c =
+    let a = c.self.inside in
+    let x = c.in-Some.row.now in
+    let at = sym c.get_mut.ensures.value ∙ ap option_copied_mut c.in-Some.is in
+    let shown = sym (ap (λ (v : FileTableView). socket_in v.files c.args.file.now) c.self.view_is) ∙ socket_at a.nodes a.rows.values c.args.file.now x at in
+    if_socket (λ s. length s.backlog < room_of s.state) (messages_of a.nodes x.chain) x.kind _ shown c.requires
