@@ -43,9 +43,9 @@ pub struct DriveError {
 fn are_enough(seats: &[Seat], scripts: &[Vec<Event>], collector: Option<Turns>) -> bool
     ensures { IsTrue result ↔ (length (works_of scripts.now collector) ≤ length seats.now) }
 {
-    match seats.len().checked_sub(scripts.len()) {
-        Some(spare) => collector.is_none() || spare > 0,
-        None => false,
+    match collector {
+        Some(_) => scripts.len() < seats.len(),
+        None => scripts.len() <= seats.len(),
     }
 }
 
