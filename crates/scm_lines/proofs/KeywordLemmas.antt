@@ -40,14 +40,6 @@ pub keyword_plain : (k : Keyword) → begins_comment (line_row k).0 ≡ false
 keyword_plain keyword.Spawn = refl
 keyword_plain other = refl
 
--- Verbs of five letters begin with c or l.
-pub no_five : (word : List ℕ) → 5 ≤ length word → length word < 6 → get_or word 0 0 ≢ 99 → get_or word 0 0 ≢ 108 → None ≡ named step_row verbs word
-no_five word long short c l = sym (no_key (λ text. nat_lt (length text) 5 || nat_lt 5 (length text) || (get_or text 0 0 == 99) || (get_or text 0 0 == 108)) step_row verbs word refl (grind (arith, common_steps)))
-
--- Verbs of six begin with a, l or s.
-pub no_six : (word : List ℕ) → 6 ≤ length word → length word < 7 → get_or word 0 0 ≢ 97 → get_or word 0 0 ≢ 108 → get_or word 0 0 ≢ 115 → None ≡ named step_row verbs word
-no_six word long short a l s = sym (no_key (λ text. nat_lt (length text) 6 || nat_lt 6 (length text) || (get_or text 0 0 == 97) || (get_or text 0 0 == 108) || (get_or text 0 0 == 115)) step_row verbs word refl (grind (arith, common_steps)))
-
 -- Verbs of seven begin with c.
 pub no_seven : (word : List ℕ) → 7 ≤ length word → length word < 8 → get_or word 0 0 ≢ 99 → None ≡ named step_row verbs word
 no_seven word long short c = sym (no_key (λ text. nat_lt (length text) 7 || nat_lt 7 (length text) || (get_or text 0 0 == 99)) step_row verbs word refl (grind (arith, common_steps)))

@@ -82,7 +82,6 @@ pub fn keyword_named(word: &[u8]) -> Option<Keyword>
 
 /// Returns the verb that the word after a process's number names, if it is one. The verbs that
 /// scripts use most are tried first.
-#[tactic(auto, using(crate::proofs::KeywordLemmas::no_five, crate::proofs::KeywordLemmas::no_six, crate::proofs::KeywordLemmas::no_seven, crate::proofs::KeywordLemmas::no_eight))]
 pub fn verb_named(word: &[u8]) -> Option<Verb>
     ensures { result ≡ named step_row verbs word.now }
 {
