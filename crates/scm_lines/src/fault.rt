@@ -5,7 +5,7 @@ ghost use Rattle.scm_lines.specs.declared.fault.LineFault.TheVariants.{Memory};
 use std::alloc::{AllocError, AllocFailed};
 
 /// Why a line was not read.
-#[derive(Clone, Copy, Debug, PartialEq, Eq)]
+#[derive(Clone, Copy)]
 pub enum LineFault {
     /// The line is not of the language, or not one that its script may have there.
     Unreadable,

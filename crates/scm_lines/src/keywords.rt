@@ -6,7 +6,7 @@ ghost use Rattle.scm_lines.specs.Forms.{keywords, line_row, named, step_row, ver
 use af_base::events::SockType;
 
 /// The first word of a line that does not begin with a process's number.
-#[derive(Clone, Copy, Debug, PartialEq, Eq)]
+#[derive(Clone, Copy, PartialEq, Eq)]
 pub enum Keyword {
     /// `spawn`
     Spawn,
@@ -27,7 +27,7 @@ pub enum Keyword {
 }
 
 /// The step of a process, by the word after its number.
-#[derive(Clone, Copy, Debug, PartialEq, Eq)]
+#[derive(Clone, Copy)]
 pub enum Verb {
     /// `open`
     Open,

@@ -14,7 +14,7 @@ use std::alloc::Global;
 pub const MAX_LINE: usize = 262_144;
 
 /// A report about the state at a line. It is no event, and changes nothing.
-#[derive(Clone, Copy, Debug, PartialEq, Eq)]
+#[derive(Clone, Copy)]
 pub enum Report {
     /// Each live file: its kind, its holders, and its contents.
     Table,
@@ -26,7 +26,7 @@ pub enum Report {
 }
 
 /// The meaning of a line.
-#[derive(Debug, PartialEq, Eq, Drop)]
+#[derive(Drop)]
 pub enum Line {
     /// Nothing: it has no words, or is a comment.
     Silence,

@@ -4,7 +4,7 @@ use std::error::Error;
 use std::fmt;
 
 /// The reason why a line cannot be read.
-#[derive(Clone, Copy, Debug, PartialEq, Eq)]
+#[derive(Clone, Copy, Debug)]
 pub enum Reason {
     /// The line has too many bytes.
     LineTooLong,
@@ -84,7 +84,7 @@ impl fmt::Display for Reason {
 impl Error for Reason {}
 
 /// Why a line cannot be read, and where.
-#[derive(Clone, Copy, Debug, PartialEq, Eq)]
+#[derive(Clone, Copy, Debug)]
 pub struct Unreadable {
     /// The column of the first byte that does not fit, counted from 1. A missing word has the
     /// column behind the line's last byte.

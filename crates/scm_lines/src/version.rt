@@ -24,7 +24,7 @@ use af_base::ids::Pid;
 use std::alloc::Global;
 
 /// The version of a script, by its lines so far.
-#[derive(Clone, Copy, Debug, PartialEq, Eq)]
+#[derive(Clone, Copy, PartialEq, Eq)]
 pub enum Version {
     /// All lines were silent, so the script may be of either version.
     Unknown,
