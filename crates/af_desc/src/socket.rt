@@ -1,6 +1,6 @@
-//! A socket: what it is but for its queue, and the whole, lent for reading.
+//! What a file is but for its queue, and a socket as a whole, lent for reading.
 ghost use Rattle.std.specs.Prelude.{◌≡◌, ℕ, ◌∷◌, [], ◌<◌, OnOk, OnErr, IfSome, IfNone, None, false};
-ghost use Rattle.std.specs.Prelude.{Some, true, is_none, is_some, length, drop, option_copied};
+ghost use Rattle.std.specs.Prelude.{Some, true, drop, is_none, is_some, length, option_copied};
 ghost use Rattle.std.specs.Prelude.{option_map};
 ghost use Rattle.std.specs.Option.{option_and_then, option_map_or};
 ghost use Rattle.af_base.specs.Changes.{connected, dequeued, listening, queued, with_name};
