@@ -7,7 +7,7 @@ use crate::place::Place;
 
 /// How many places hold a file: one number for each kind of place. Each kind has far fewer than
 /// 2^31 places at once, so that the numbers are short.
-#[derive(Clone, Copy, Debug, PartialEq, Eq)]
+#[derive(Clone, Copy)]
 pub struct Count {
     /// The number of descriptors that refer to it.
     pub tabled: u32,

@@ -8,7 +8,7 @@ use af_base::ids::{Ino, Uid};
 use af_base::listing::Listing;
 
 /// The numbers that are kept of a file.
-#[derive(Clone, Copy, Debug, PartialEq, Eq)]
+#[derive(Clone, Copy)]
 pub struct KeptFile {
     /// Its inode number.
     pub ino: Ino,
@@ -19,7 +19,7 @@ pub struct KeptFile {
 }
 
 /// The number that is kept of a user.
-#[derive(Clone, Copy, Debug, PartialEq, Eq)]
+#[derive(Clone, Copy)]
 pub struct KeptUser {
     /// The user.
     pub user: Uid,
@@ -28,7 +28,7 @@ pub struct KeptUser {
 }
 
 /// All numbers that are kept.
-#[derive(Debug, Drop)]
+#[derive(Drop)]
 pub struct Kept {
     /// Those of files, in any order.
     pub files: Vec<KeptFile>,
