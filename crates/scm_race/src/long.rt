@@ -26,7 +26,7 @@ pub const MAX_CHECKPOINT: u32 = 250_000;
 pub const MAX_LONG_STEPS: u32 = 100_000_000;
 
 /// A race that stops at checkpoints. Its memory does not grow with its length.
-#[derive(Clone, Copy, Debug, PartialEq, Eq)]
+#[derive(Clone, Copy)]
 pub struct LongRace {
     /// The settings of the race. Each worker may do up to 100,000,000 events.
     pub race: Race,
@@ -36,7 +36,7 @@ pub struct LongRace {
 }
 
 /// The totals of a long race. Each audit ended well.
-#[derive(Clone, Copy, Debug, PartialEq, Eq)]
+#[derive(Clone, Copy)]
 pub struct RaceTotals {
     /// How many events the workers did, counted in the logs.
     pub steps: u64,
