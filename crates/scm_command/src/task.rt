@@ -22,7 +22,7 @@ use std::alloc::{AllocError, Global};
 use std::convert::AsStr;
 
 /// The task of the program.
-#[derive(Clone, Copy, Debug, PartialEq, Eq)]
+#[derive(Clone, Copy)]
 pub enum Task<'a> {
     /// Run the script on standard input.
     Run,
