@@ -1,5 +1,6 @@
 -- The settled world is settled, and an unheld file may be freed first.
 use Rattle.std.proofs.Common.{◌≡◌, inl, inr, ℕ, Bool, true, false, not, ◌||◌, ◌&&◌, refl, sym, ap, ◌∙◌, subst, nat_eq}
+use Rattle.std.proofs.Math.Bool.{and-true}
 use Rattle.std.proofs.lemmas.Bool.{and_from, and_parts, eqb-true, false≢true}
 use Rattle.af_base.specs.World.{World, IsLive}
 use Rattle.af_base.specs.Places.{InTable, Holds}
@@ -32,11 +33,6 @@ cycles_stay w cycle held f e u = none f u e where
 
 pub unplaced_is_unheld : UnplacedIsUnheld
 unplaced_is_unheld w f l none = Goes f l (λ t. none (inl t)) (λ s h. absurd (none (inr (s, h))))
-
--- A value together with `true` is that value.
-and_true : (b : Bool) → b ≡ (b && true)
-and_true true = refl
-and_true false = refl
 
 module _ (w new : World) (f : ℕ) (live : IsLive w f) (no_table : ¬ (InTable w f)) (no_holder : (s : ℕ) → ¬ (Holds w s f)) (s : Settles w new) where
   -- The world without f.
@@ -73,7 +69,7 @@ module _ (w new : World) (f : ℕ) (live : IsLive w f) (no_table : ¬ (InTable w
   same g = by (nat_eq f g) refl where
     by : (b : Bool) → nat_eq f g ≡ b → s.0 g ≡ (b || (s.0 g && not b))
     by true e = (s.1 g).1 (subst (Unheld w) (eqb-true f g e) (first_goes w f live no_table no_holder))
-    by false e = and_true (s.0 g)
+    by false e = sym (and-true (s.0 g))
 
   -- The world without f settles to the same.
   rest_settles : Settles rest new

@@ -8,7 +8,7 @@ use Rattle.std.specs.BTreeSet as tree
 use Rattle.std.specs.BTreeSet.{BTreeSet}
 use Rattle.std.specs.Cmp.{nat_cmp_total}
 use Rattle.std.specs.FinMap as finmap
-use Rattle.std.proofs.lemmas.Bool.{eq-eqb, false≢true}
+use Rattle.std.proofs.lemmas.Bool.{eq-eqb, false≢true, not-true}
 use Rattle.std.proofs.lemmas.List.Elements.{All-contains, All-contains_itself, All-filter, filter_passes, filter-append, Contains-append_left, Contains-append_right, Contains-push, Contains-push_cases}
 use Rattle.std.proofs.lemmas.List.{take_more, map-append}
 use Rattle.std.proofs.lemmas.List.Kept.{IsStrictlyIncreasing-filter}
@@ -177,11 +177,6 @@ module _ (w : World) (files : List ListedFile) (s : BTreeSet ℕ) (is : w.files 
   passed : (f : ℕ) → Contains (filter unmarked inos) f → unmarked f ≡ true
   passed f h = All-contains (λ x. unmarked x ≡ true) (filter unmarked inos) f (filter_passes unmarked inos) h
 
-  -- A test whose denial is true is false.
-  failed : (b : Bool) → not b ≡ true → b ≡ false
-  failed true e = absurd (false≢true e)
-  failed false e = refl
-
   -- A test that is not true has a true denial.
   passes : (b : Bool) → (¬ (b ≡ true)) → not b ≡ true
   passes true n = absurd (n refl)
@@ -196,7 +191,7 @@ module _ (w : World) (files : List ListedFile) (s : BTreeSet ℕ) (is : w.files 
   garbage_listed ordered marked = (
     IsStrictlyIncreasing-filter unmarked inos ordered.inos,
     λ f. (
-      λ h. (at f ∙ (listed-live files f).0 (inside f h), λ r. false≢true (sym (failed (tree.contains nat_cmp s f) (passed f h)) ∙ (marked f).1 r)),
+      λ h. (at f ∙ (listed-live files f).0 (inside f h), λ r. false≢true (sym (not-true (tree.contains nat_cmp s f) (passed f h)) ∙ (marked f).1 r)),
       λ g. kept-passes unmarked inos f (passes (tree.contains nat_cmp s f) (λ e. g.1 ((marked f).0 e))) ((listed-live files f).1 (sym (at f) ∙ g.0)),
     ),
   )

@@ -6,7 +6,7 @@ use Rattle.std.specs.Str.Lines.{lines, lines_of_parts, strip_carriage_return}
 use Rattle.std.proofs.lemmas.List.{flat_map_more, take_at, drop_more, map-append, length-map}
 use Rattle.std.proofs.lemmas.List.Splits.{slice_split_at, slice_split_none}
 use Rattle.std.proofs.lemmas.List.Elements.{All-append, All-nil, All-cons, All-from_get_or}
-use Rattle.std.proofs.lemmas.Bool.{eqb-true}
+use Rattle.std.proofs.lemmas.Bool.{eqb-true, false_from_ne_true}
 use Rattle.std.proofs.lemmas.Grind.{common_steps}
 use Rattle.memchr.specs.Find.{IsFirstByte, is_byte}
 use Rattle.scm_lines.specs.Lines.{line_of, ◌>>=◌}
@@ -183,14 +183,9 @@ all_lines taken whole rest cut = ap lines cut.joined ∙ lines-front whole rest 
 
 -- ---- the bytes of a chunk
 
--- A test that is not true is false.
-not_true : (b : Bool) → ¬ (b ≡ true) → b ≡ false
-not_true true never = absurd (never refl)
-not_true false never = refl
-
 -- Where there is none, there is none.
 pub NoFeed-all : (bytes : List ℕ) → IsFirstByte (is_byte 10) bytes None → NoFeed bytes
-NoFeed-all bytes nowhere = All-from_get_or (λ b. (b == 10) ≡ false) bytes 0 (λ k low. not_true (slice_index bytes k == 10) (nowhere k (omega arith) low))
+NoFeed-all bytes nowhere = All-from_get_or (λ b. (b == 10) ≡ false) bytes 0 (λ k low. false_from_ne_true (slice_index bytes k == 10) (nowhere k (omega arith) low))
 
 -- The bytes up to a line feed, it, and those after it.
 pub around : (bytes : List ℕ) (at : ℕ) → IsFirstByte (is_byte 10) bytes (Some at) → bytes ≡ ended_by_feed (take at bytes) ++ drop (at + 1) bytes
