@@ -2,6 +2,7 @@
 use Rattle.std.proofs.Common.{◌≡◌, false, arith, ℕ, List, [], ◌∷◌, length, take, refl, sym, ap, ◌∙◌, nat_eq}
 use Rattle.std.specs.Prelude.{None, min, nat_lt, if◌then◌else◌}
 use Rattle.std.specs.List.{zip}
+use Rattle.std.proofs.lemmas.List.{nil_from_length}
 use Rattle.af_base.specs.declared.events.SockType.{SockType}
 use Rattle.af_base.specs.declared.events.SockType.TheVariants.{Seqpacket, Stream}
 use Rattle.af_base.specs.declared.events.Reply.TheVariants as reply
@@ -25,11 +26,6 @@ pub no-pairs : {A B : Type 0} (xs : List A) → zip {X = B} xs [] ≡ []
 no-pairs [] = refl
 no-pairs (x ∷ xs) = refl
 
--- A queue of no length has no message.
-no-message : {A : Type 0} (q : List A) → length q ≡ 0 → q ≡ []
-no-message [] e = refl
-no-message (m ∷ q) e = absurd (omega (arith, e))
-
 module _ {inside old : Machine} (shown : inside ≡ old) {p n f : ℕ} {q : Process} {x : Socket} (has : HasSocket inside.world p q n f x) (bytes fds : ℕ) (given : first_fit (on_receive x bytes) ≡ None) (none : length x.queue ≡ 0) (sound : IsSound inside.world) where
   -- The world that the engine has inside.
   abbrev w : World
@@ -41,7 +37,7 @@ module _ {inside old : Machine} (shown : inside ≡ old) {p n f : ℕ} {q : Proc
 
   -- The queue is empty.
   empty : x.queue ≡ []
-  empty = no-message x.queue none
+  empty = nil_from_length x.queue none
 
   -- So nothing is taken.
   none_taken : taken_on w p n bytes ≡ nothing_taken
