@@ -7,7 +7,7 @@ ghost use Rattle.scm_play.specs.Display.{shown_byte};
 use std::alloc::{AllocError, Global};
 
 /// Where lines come from, and so what is shown beside their answers.
-#[derive(Clone, Copy, Debug, PartialEq, Eq)]
+#[derive(Clone, Copy)]
 pub enum Style {
     /// A script: each line is shown with its number, and its answer beside it.
     Script,
