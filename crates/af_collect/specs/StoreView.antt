@@ -29,7 +29,7 @@ pub record StoreView : Type 0 where
 abbrev pub room_at : StoreView → ℕ → ℕ
 room_at s p = row_in s.rows p
 
--- What this collector keeps of its pass, with other holdings.
+-- The invariant of this collector's pass, with other holdings.
 abbrev pub KeepsPassWith : Collector → HoldingsView → Type 0
 KeepsPassWith p s = PassInvariant s.world p.begun.value.world s.marks p.progress
 

@@ -126,7 +126,7 @@ socket_at s m f x at = ap (option_and_then socket_of) (file_is m f x at s) ∙ b
   by None = refl
   by (Some e) = refl
 
--- What is true of that socket is true of its kind.
+-- A fact on that socket is one on its kind.
 pub if_socket : (P : Socket → Type 0) (q : List Message) (o r : Option Socket) → r ≡ option_map (refilled q) o → IfSome r P → IfSome o (λ e. P (refilled q e))
 if_socket P q None r is h = tt
 if_socket P q (Some e) r is h = subst (λ z. IfSome z P) is h

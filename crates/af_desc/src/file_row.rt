@@ -24,7 +24,7 @@ use std::alloc::{AllocError, Global};
 /// The row of one file: what it is, its queue, its count, its mark, and whether it is dirty.
 #[derive(Drop)]
 pub struct FileRow {
-    /// What it is: a plain file, or a socket without its queue.
+    /// Its kind: a plain file, or a socket without its queue.
     pub kind: FileKind,
     /// The messages of its queue.
     pub chain: Chain,

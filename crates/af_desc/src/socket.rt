@@ -1,4 +1,4 @@
-//! What a file is but for its queue, and a socket as a whole, lent for reading.
+//! The kind of a file, without a queue, and a socket as a whole, lent for reading.
 ghost use Rattle.std.specs.Prelude.{◌≡◌, ℕ, ◌∷◌, [], ◌<◌, OnOk, OnErr, IfSome, IfNone, None, false};
 ghost use Rattle.std.specs.Prelude.{Some, true, drop, is_none, is_some, length, option_copied};
 ghost use Rattle.std.specs.Prelude.{option_map};
@@ -18,7 +18,7 @@ use af_queue::Queue;
 use std::alloc::{AllocError, Global};
 use std::marker::Model;
 
-/// What a file is, without the queue that a socket has. A contract sees a socket with an empty
+/// The kind of a file: plain, or a socket without its queue. A contract sees a socket with an empty
 /// queue, and `None` for a plain file.
 #[derive(Drop)]
 pub struct FileKind {

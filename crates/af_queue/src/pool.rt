@@ -34,8 +34,7 @@ pub fn room(nodes: &mut Slab<Node>) -> Result<(), AllocError>
     nodes.reserve(1)
 }
 
-/// Appends a message to this chain, which is that file's and not full. It cannot fail, since there
-/// is room.
+/// Appends a message to this chain, which is not full. It cannot fail, since there is room.
 #[inline(always)]
 pub fn push(nodes: &mut Slab<Node>, chain: &mut Chain, message: Msg)
     requires chain { IsChain nodes.old chain.old }
@@ -78,7 +77,7 @@ fn link(nodes: &mut Slab<Node>, key: u32, next: u32)
     }
 }
 
-/// Removes the first message of this chain, which is that file's, if there is one. Takes no memory.
+/// Removes the first message of this chain, if there is one. Takes no memory.
 #[inline(always)]
 pub fn pop(nodes: &mut Slab<Node>, chain: &mut Chain) -> Option<Msg>
     requires chain { IsChain nodes.old chain.old }
@@ -100,7 +99,7 @@ pub fn pop(nodes: &mut Slab<Node>, chain: &mut Chain) -> Option<Msg>
     Some(node.message)
 }
 
-/// Takes what a receive of at most this many bytes gives (recvmsg(2)) from this chain of that file:
+/// Takes what a receive of at most this many bytes gives (recvmsg(2)) from this chain:
 /// of packets (SOCK_SEQPACKET) the first, without memory; of a stream (SOCK_STREAM) bytes across
 /// messages, up to the end of the first one with files. On an error nothing has changed.
 #[inline(always)]

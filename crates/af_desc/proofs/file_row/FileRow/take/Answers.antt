@@ -9,7 +9,7 @@ use Rattle.af_desc.specs.TrackedTableView.{refilled}
 use Rattle.af_desc.proofs.TrackedTableView.{queue_changed}
 use Rattle.af_desc.proofs.file_row.FileRow.take.Goals as goal
 
--- What follows from what a call did follows where it succeeded.
+-- A consequence of a call's effect holds where the call succeeded.
 on_ok : {T E P Q : Type 0} (r : Result T E) → (P → Q) → OnOk r P → OnOk r Q
 on_ok (Ok x) f h = f h
 on_ok (Err e) f h = tt
