@@ -1,11 +1,22 @@
--- An engine may go to another thread. The snapshots in the parts of a store and in the rows of
--- files own nothing; for the rest there are generated facts.
+-- An engine may go to another thread. The snapshots in the parts of a store, in the rows of files
+-- and in their order own nothing; for the rest there are generated facts.
+use denote.RattleType.{RattleType}
 use denote.Param.Send.{IsSend, sendable}
 use denote.Param.SendFields.{declared_send}
-use Rattle.std.proofs.Crossing.{crosses}
+use Rattle.std.proofs.Crossing.{crosses, frees, send}
 use Rattle.af_base.proofs.ids.FileRef.TheSendSync as file
 use Rattle.af_base.proofs.ids.Ino.TheSendSync as ino
-use Rattle.af_desc.proofs.file_table.FileTable.TheSendSync as lines
+use Rattle.slab.proofs.Slab.TheSendSync as slab
+use Rattle.ordered_slab.proofs.row.OrderRow.TheSendSync as row
+use Rattle.ordered_slab.proofs.numbered_value.NumberedValue.TheSendSync as value
+use Rattle.ordered_slab.specs.contracts.order.Order as Order
+use Rattle.ordered_slab.specs.contracts.order.Order.TheInside as OrderInside
+use Rattle.ordered_slab.specs.contracts.numbered.OrderedSlab as OrderedSlab
+use Rattle.ordered_slab.specs.contracts.numbered.OrderedSlab.TheInside as OrderedSlabInside
+use Rattle.af_queue.proofs.chain.Node.TheSendSync as node
+use Rattle.af_desc.proofs.file_row.FileRow.TheSendSync as file_row
+use Rattle.af_desc.specs.contracts.file_table.FileTable as FileTable
+use Rattle.af_desc.specs.contracts.file_table.FileTable.TheInside as TableInside
 use Rattle.af_desc.specs.contracts.tracked_table.TrackedTable as TrackedTable
 use Rattle.af_desc.specs.contracts.tracked_table.TrackedTable.TheInside as RowsInside
 use Rattle.af_desc.specs.contracts.files.Files as Files
@@ -22,11 +33,37 @@ use Rattle.af_collect.specs.contracts.store.Store.TheInside as StoreInside
 use Rattle.af_steps.specs.contracts.engine.Engine as Engine
 use Rattle.af_steps.specs.contracts.engine.Engine.TheInside as EngineInside
 
+-- The fields of an order may go to another thread.
+order_inside : IsSend OrderInside.the_row
+order_inside = declared_send OrderInside.the_type (search (sendable, crosses, row.the_send) depth 20, (search (sendable, crosses, row.the_send) depth 20, (search sendable, (search (sendable, crosses) depth 20, tt))))
+
+-- So may an order.
+order_send : IsSend Order.the_row
+order_send = search (sendable, order_inside) depth 10
+
+-- Values under numbers may go to another thread, as each value may.
+module _ (T : RattleType) (each : IsSend T) where
+  -- Their order and their slab may.
+  values_inside : IsSend (OrderedSlabInside.the_row T)
+  values_inside = declared_send (OrderedSlabInside.the_type T) (order_send, (slab.the_send _ _ _ (value.the_send T each) send frees, tt))
+
+  -- So may they.
+  values_send : IsSend (OrderedSlab.the_row T)
+  values_send = search (sendable, values_inside) depth 10
+
+-- The rows of files and the messages may go to another thread.
+table_inside : IsSend TableInside.the_row
+table_inside = declared_send TableInside.the_type (values_send _ file_row.the_send, (slab.the_send _ _ _ node.the_send send frees, tt))
+
+-- So may a table of both.
+table_send : IsSend FileTable.the_row
+table_send = search (sendable, table_inside) depth 10
+
 -- The fields of the table of files may go to another thread.
 rows_inside : IsSend RowsInside.the_row
 rows_inside =
     declared_send RowsInside.the_type (
-      search (sendable, crosses, lines.the_send) depth 20,
+      table_send,
       (
         search sendable,
         (

@@ -1,6 +1,5 @@
 pub mod SlabValues
 pub mod Rows
 pub mod Searches
-pub mod Moves
 pub mod Values
 pub mod Parts

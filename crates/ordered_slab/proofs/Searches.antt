@@ -1,66 +1,31 @@
 -- The result of a binary search among rising rows.
-use Rattle.std.proofs.Common.{◌≡◌, ℕ, ◌<◌, ◌≤◌, inl, inr, true, false, List, length, refl, sym, ap, subst, ◌∙◌, get_or, arith}
-use Rattle.std.specs.Prelude.{Option, Some, None, Ok, Err, IsTrue, is_some}
+use Rattle.std.proofs.Common.{◌≡◌, ℕ, ◌<◌, ◌≤◌, inl, inr, true, false, List, length, refl, sym, ap, ◌∙◌, get_or, arith}
+use Rattle.std.specs.Prelude.{Option, Some, None, Ok, Err}
+use Rattle.std.specs.FinMap as map
 use Rattle.std.specs.List.Sorted.{IsSearchInRange, IsBinarySearchResult, IsNonDecreasingBy, IsPartitionPoint}
 use Rattle.std.specs.Ordering.{nat_cmp, ordering_index}
-use Rattle.std.proofs.lemmas.Bool.{cases_lt, false≢true}
+use Rattle.std.proofs.lemmas.Bool.{cases_lt}
 use Rattle.std.proofs.lemmas.Bool.Decides.{nat_tests}
 use Rattle.std.proofs.lemmas.Cmp.{ranked}
 use borrow.Author.Tests.{leb-true, leb-false}
 use lib.Dec.{leb}
 use Rattle.std.proofs.lemmas.List.Sorted.{IsNonDecreasingBy-from_default}
 use Rattle.std.proofs.lemmas.List.{get_or_default}
-use Rattle.af_base.proofs.Lookups.{there, none_some}
+use Rattle.af_base.specs.World.{Map}
 use Rattle.ordered_slab.specs.OrderView.{OrderRowView}
-use Rattle.ordered_slab.specs.Rows.{row_at, Rise, IsLiveAt}
-use Rattle.ordered_slab.proofs.Rows.{held, nowhere, somewhere, at_place}
+use Rattle.ordered_slab.specs.Rows.{row_at, Rise, HasRow}
+use Rattle.ordered_slab.proofs.Rows.{none_row, alone}
 
--- The row past the end.
-abbrev pub none_row : OrderRowView
-none_row = record { ino = 0; key = None }
-
--- A row with its number and a key is live.
-pub live_row : (rows : List OrderRowView) (at : ℕ) → at < length rows → IsTrue (is_some (row_at rows at).key) → IsLiveAt rows (row_at rows at).ino at
-live_row rows at l some = let k = there (row_at rows at).key some in (k.0, l, (λ i. record { ino = (row_at rows at).ino; key = k.1 i }))
-
--- A row with this number and a key is live.
-pub live_number : (rows : List OrderRowView) (n at : ℕ) → at < length rows → (row_at rows at).ino ≡ n → IsTrue (is_some (row_at rows at).key) → IsLiveAt rows n at
-live_number rows n at l e some = subst (λ m. IsLiveAt rows m at) e (live_row rows at l some)
-
--- The same of a row that was looked up.
-pub live_looked : (rows : List OrderRowView) (n at : ℕ) (r : OrderRowView) → at < length rows → r ≡ row_at rows at → r.ino ≡ n → IsTrue (is_some r.key) → IsLiveAt rows n at
-live_looked rows n at r l is e some = live_number rows n at l (ap (λ r. r.ino) (sym is) ∙ e) (subst (λ (r : OrderRowView). IsTrue (is_some r.key)) is some)
+-- A number without any key has none.
+pub nowhere : (m : Map ℕ) (n : ℕ) → ((k : ℕ) → map.get m n ≡ Some k → ⊥) → map.get m n ≡ None
+nowhere m n h = by (map.get m n) refl where
+  by : (o : Option ℕ) → map.get m n ≡ o → map.get m n ≡ None
+  by None e = e
+  by (Some k) e = absurd (h k e)
 
 -- A row that was read is the row at its place.
 pub read_here : (rows : List OrderRowView) (at : ℕ) (r : OrderRowView) → at < length rows → r ≡ get_or rows at r → r ≡ row_at rows at
 read_here rows at r l is = is ∙ get_or_default rows at r none_row l
-
--- It has the number of that place.
-pub read_number : (rows : List OrderRowView) (n at : ℕ) (r : OrderRowView) → IsLiveAt rows n at → r ≡ get_or rows at r → r.ino ≡ n
-read_number rows n at r x is = ap (λ r. r.ino) (read_here rows at r x.1 is ∙ x.2)
-
--- And the key.
-pub read_key : (rows : List OrderRowView) (n at : ℕ) (r : OrderRowView) (x : IsLiveAt rows n at) → r ≡ get_or rows at r → r.key ≡ Some x.0
-read_key rows n at r x is = ap (λ r. r.key) (read_here rows at r x.1 is ∙ x.2)
-
--- A row with this key.
-pub row_is : (rows : List OrderRowView) (at k : ℕ) (r : OrderRowView) → r ≡ row_at rows at → r.key ≡ Some k → row_at rows at ≡ record { ino = r.ino; key = Some k }
-row_is rows at k r is e = sym is ∙ (λ i. record { ino = r.ino; key = e i })
-
--- The key of a row that was read.
-pub key_read : (rows : List OrderRowView) (at : ℕ) (r : OrderRowView) → at < length rows → (get_or rows at r).key ≡ (row_at rows at).key
-key_read rows at r l = ap (λ r. r.key) (get_or_default rows at r none_row l)
-
--- The same as the code reads it.
-pub live_read : (rows : List OrderRowView) (n at : ℕ) (r : OrderRowView) → at < length rows → (row_at rows at).ino ≡ n → true ≡ is_some (get_or rows at r).key → IsLiveAt rows n at
-live_read rows n at r l e some = live_number rows n at l e (sym (some ∙ ap is_some (key_read rows at r l)))
-
--- A row that is read as dead has no key.
-pub dead_read : (rows : List OrderRowView) (at : ℕ) (r : OrderRowView) → at < length rows → false ≡ is_some (get_or rows at r).key → (row_at rows at).key ≡ None
-dead_read rows at r l none = by (row_at rows at).key (none ∙ ap is_some (key_read rows at r l)) where
-  by : (o : Option ℕ) → false ≡ is_some o → o ≡ None
-  by None e = refl
-  by (Some k) e = absurd (false≢true e)
 
 module _ (rows : List OrderRowView) (rise : Rise rows) (n : ℕ) where
   -- The number of a row is at most that of a later one.
@@ -82,35 +47,29 @@ module _ (rows : List OrderRowView) (rise : Rise rows) (n : ℕ) where
   pub found : (at : ℕ) → IsBinarySearchResult (λ row. nat_cmp row.ino n) rows (Ok at) → (row_at rows at).ino ≡ n
   found at equal = ranked (row_at rows at).ino n _ (sym (equal none_row))
 
-  -- Where a search for n finds no row, the number has no key.
-  pub missed : (at : ℕ) → IsSearchInRange (Err at) (length rows) → IsBinarySearchResult (λ row. nat_cmp row.ino n) rows (Err at) → held rows n ≡ None
-  missed at within parted = nowhere rows n (λ i l e. elim (cases_lt i at) [
-    | inl m ↦ let o = ranked (row_at rows i).ino n _ (sym ((parted compared).0 i none_row (omega arith) m)) in omega arith
-    | inr m ↦ let o = ranked (row_at rows i).ino n _ (sym ((parted compared).1 i none_row m l)) in omega arith
-  ])
+  -- Where a search for n finds no row, it has none.
+  pub missed : (at k : ℕ) → IsSearchInRange (Err at) (length rows) → IsBinarySearchResult (λ row. nat_cmp row.ino n) rows (Err at) → HasRow rows n k → ⊥
+  missed at k within parted x = let e = ap (λ r. r.ino) x.2 in elim (cases_lt x.0 at) [
+    | inl m ↦ let o = ranked (row_at rows x.0).ino n _ (sym ((parted compared).0 x.0 none_row (omega (arith, m, x.1)) m)) in omega (arith, o, e)
+    | inr m ↦ let o = ranked (row_at rows x.0).ino n _ (sym ((parted compared).1 x.0 none_row m x.1)) in omega (arith, o, e)
+  ]
 
-  -- A row without a key has no number.
-  pub found_dead : (at : ℕ) → at < length rows → (row_at rows at).ino ≡ n → (row_at rows at).key ≡ None → held rows n ≡ None
-  found_dead at l e dead = ap (held rows) (sym e) ∙ at_place rows rise at l ∙ dead
+  -- The row that a search finds is the only one of its number.
+  pub only : (at k : ℕ) → at < length rows → (row_at rows at).ino ≡ n → HasRow rows n k → row_at rows at ≡ record { ino = n; key = k }
+  only at k l e x = ap (row_at rows) (alone rows rise at x.0 l x.1 (e ∙ sym (ap (λ r. r.ino) x.2))) ∙ x.2
 
 -- The live numbers above n are behind the rows up to n and the dead ones after them.
-module _ (rows : List OrderRowView) (rise : Rise rows) (n from at : ℕ) (low : (i : ℕ) → i < from → (row_at rows i).ino ≤ n)
-    (dead : (i : ℕ) → from ≤ i → i < at → (row_at rows i).key ≡ None) where
-  -- A number above n has no key if it is below that of the row at this place, or none is there.
-  pub passed : (q : ℕ) → n < q → (at < length rows → q < (row_at rows at).ino) → held rows q ≡ None
-  passed q above before = by (held rows q) refl where
-    nowhere_live : (i k : ℕ) → i < length rows → (row_at rows i).ino ≡ q → (row_at rows i).key ≡ Some k → ⊥
-    nowhere_live i k l e live = elim (cases_lt i from) [
-      | inl m ↦ let o = low i m in omega arith
-      | inr m ↦ elim (cases_lt i at) [
-        | inl o ↦ none_some k (sym (dead i m o) ∙ live)
-        | inr o ↦ let p = climb rows rise n at i o l in let r = before (omega arith) in omega arith
-      ]
+module _ (rows : List OrderRowView) (rise : Rise rows) (m : Map ℕ) (n from at : ℕ) (low : (i : ℕ) → i < from → (row_at rows i).ino ≤ n)
+    (dead : (j q k : ℕ) → from ≤ j → j < at → row_at rows j ≡ record { ino = q; key = k } → map.get m q ≡ Some k → ⊥) where
+  -- A number above n has no live row if it is below that of the row at this place, or none is there.
+  pub passed : (q k : ℕ) → n < q → (at < length rows → q < (row_at rows at).ino) → map.get m q ≡ Some k → HasRow rows q k → ⊥
+  passed q k above before live x = elim (cases_lt x.0 from) [
+    | inl a ↦ let o = low x.0 a in omega (arith, o, above, ap (λ r. r.ino) x.2)
+    | inr a ↦ elim (cases_lt x.0 at) [
+      | inl b ↦ dead x.0 q k a b x.2 live
+      | inr b ↦ let p = climb rows rise n at x.0 b x.1 in let r = before (omega (arith, b, x.1)) in omega (arith, p, r, ap (λ r. r.ino) x.2)
     ]
-
-    by : (o : Option ℕ) → held rows q ≡ o → held rows q ≡ None
-    by None e = e
-    by (Some k) e = let x = somewhere rows q k e in absurd (nowhere_live x.0 k x.1 x.2 x.3)
+  ]
 
 -- The rows from the partition on are above n, those before it are not.
 module _ (rows : List OrderRowView) (n from : ℕ) (parted : IsPartitionPoint (λ row. leb row.ino n ≡ true) (λ row. leb row.ino n ≡ false) rows from) (within : from ≤ length rows) where

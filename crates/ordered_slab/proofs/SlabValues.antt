@@ -1,5 +1,5 @@
 -- Look-ups and changes of values under keys.
-use Rattle.std.proofs.Common.{◌≡◌, ℕ, ◌+◌, ◌-◌, ◌<◌, Bool, true, false, ◌||◌, cond, List, [], ◌∷◌, length, zero, suc, refl, sym, ap, ◌∙◌, arith}
+use Rattle.std.proofs.Common.{◌≡◌, ℕ, ◌+◌, ◌-◌, ◌<◌, Bool, true, false, ◌||◌, cond, List, [], ◌∷◌, ◌++◌, length, zero, suc, refl, sym, ap, subst, ◌∙◌, arith}
 use Rattle.std.specs.Prelude.{Option, Some, None, nat_eq, is_some, count_by, slice_index_or}
 use Rattle.std.specs.Option.{option_map, option_map_or}
 use Rattle.std.specs.List.{list_any}
@@ -13,9 +13,12 @@ use Rattle.std.proofs.lemmas.Bool.{eqb-true, eqb-false, eq-eqb}
 use Rattle.std.proofs.lemmas.List.{get_or-set_same, get_or-set_other}
 use Rattle.std.proofs.lemmas.List.Sums.{sum_by-set}
 use Rattle.af_base.specs.World.{Map}
-use Rattle.af_base.proofs.Lookups.{none_some, some_is, some_same}
+use Rattle.af_base.proofs.Lookups.{none_some, some_is, some_same, remove-here}
 use Rattle.ordered_slab.specs.declared.numbered_value.NumberedValue.{NumberedValue}
-use Rattle.ordered_slab.specs.SlabValues.{value_at, value_of, values_from, values_of, AreInPlace}
+use Rattle.ordered_slab.specs.OrderView.{OrderRowView}
+use Rattle.ordered_slab.specs.Rows.{HasRow, AreListed}
+use Rattle.ordered_slab.proofs.Rows.{in_left, in_right}
+use Rattle.ordered_slab.specs.SlabValues.{keys_from, keys_of, value_at, value_of, values_from, values_of, AreInPlace}
 
 module _ {V : Type 0} where
   -- Two maps that have the same at each number.
@@ -117,6 +120,62 @@ module _ {V : Type 0} (m : Map ℕ) (s : Slab (NumberedValue V)) (h : AreInPlace
     by None at none = absurd (none_some f none)
     by (Some x) at is = sym (hinted f key x at (some_same x.file f is))
 
+module _ {V : Type 0} where
+  -- A map with a value put in at f has it there, and elsewhere what it had.
+  with_value : (m : Map V) (f : ℕ) (v : V) (q : ℕ) → cond (nat_eq f q) (Some v) (map.get m q) ≡ map.get (map.insert m f v) q
+  with_value m f v q = ap (λ b. cond b (Some v) (map.get m q)) (nat_eq_equiv.symm f q ∙ sym (unsigned_tied q f)) ∙ sym (get-insert nat_cmp_total m f v q)
+
+  -- A map without f has nothing at f, and elsewhere what it had.
+  without_value : (m : Map V) (f : ℕ) (q : ℕ) → cond (nat_eq f q) None (map.get m q) ≡ map.get (map.remove m f) q
+  without_value m f q = ap (λ b. cond b None (map.get m q)) (nat_eq_equiv.symm f q ∙ sym (unsigned_tied q f)) ∙ sym (get-remove nat_cmp_total m f q)
+
+-- The keys of the numbers in slots, the first of which has this key.
+module _ {V : Type 0} where
+  -- A number with a key is that of the entry there.
+  listed_entry : (key : ℕ) (xs : List (Option (NumberedValue V))) (q k : ℕ) → map.get (keys_from key xs) q ≡ Some k
+      → (i : ℕ) × (k ≡ key + i) × (option_map (λ x. x.file) (slice_index_or xs i None) ≡ Some q)
+  listed_entry key [] q k e = absurd (none_some k (sym (get-empty nat_cmp q) ∙ e))
+  listed_entry key (None ∷ xs) q k e = let x = listed_entry (key + 1) xs q k e in (suc x.0, omega (arith, x.1), x.2)
+  listed_entry key (Some entry ∷ xs) q k e = by (listed_entry (key + 1) xs q k) (nat_eq entry.file q) refl where
+    by : (map.get (keys_from (key + 1) xs) q ≡ Some k → (i : ℕ) × (k ≡ key + 1 + i) × (option_map (λ x. x.file) (slice_index_or xs i None) ≡ Some q)) → (b : Bool) → nat_eq entry.file q ≡ b
+        → (i : ℕ) × (k ≡ key + i) × (option_map (λ x. x.file) (slice_index_or (Some entry ∷ xs) i None) ≡ Some q)
+    by more true f = (0, omega (arith, some_same k key (sym e ∙ sym (with_value (keys_from (key + 1) xs) entry.file key q) ∙ ap (λ b. cond b (Some key) (map.get (keys_from (key + 1) xs) q)) f)), ap Some (eqb-true entry.file q f))
+    by more false f = let x = more (sym (ap (λ b. cond b (Some key) (map.get (keys_from (key + 1) xs) q)) f) ∙ with_value (keys_from (key + 1) xs) entry.file key q ∙ e) in (suc x.0, omega (arith, x.1), x.2)
+
+  -- The number of each entry has a key.
+  entry_listed : (key : ℕ) (xs : List (Option (NumberedValue V))) (q i : ℕ) → option_map (λ x. x.file) (slice_index_or xs i None) ≡ Some q → map.get (keys_from key xs) q ≡ None → ⊥
+  entry_listed key [] q i e none = none_some q e
+  entry_listed key (None ∷ xs) q zero e none = none_some q e
+  entry_listed key (None ∷ xs) q (suc i) e none = entry_listed (key + 1) xs q i e none
+  entry_listed key (Some entry ∷ xs) q i e none = by i e (entry_listed (key + 1) xs q) (nat_eq entry.file q) refl where
+    by : (i : ℕ) → option_map (λ x. x.file) (slice_index_or (Some entry ∷ xs) i None) ≡ Some q
+        → ((i : ℕ) → option_map (λ x. x.file) (slice_index_or xs i None) ≡ Some q → map.get (keys_from (key + 1) xs) q ≡ None → ⊥) → (b : Bool) → nat_eq entry.file q ≡ b → ⊥
+    by i e more true f = none_some key (sym none ∙ sym (with_value (keys_from (key + 1) xs) entry.file key q) ∙ ap (λ b. cond b (Some key) (map.get (keys_from (key + 1) xs) q)) f)
+    by zero e more false f = eqb-false entry.file q f (some_same entry.file q e)
+    by (suc i) e more false f = more i e (sym (ap (λ b. cond b (Some key) (map.get (keys_from (key + 1) xs) q)) f) ∙ with_value (keys_from (key + 1) xs) entry.file key q ∙ none)
+
+  -- Room alone changes no key.
+  pub keys_grown : (s t : Slab (NumberedValue V)) → t.slots ≡ s.slots → keys_of t ≡ keys_of s
+  unfolding keys_of
+  keys_grown s t ss = ap (keys_from 0) ss
+
+  -- No entry, no key.
+  pub no_keys : (s : Slab (NumberedValue V)) → s.slots ≡ [] → keys_of s ≡ map.empty
+  unfolding keys_of
+  no_keys s ss = ap (keys_from 0) ss
+
+  -- Where all is in place, the numbers have the keys of their entries.
+  pub keys_are : (m : Map ℕ) (s : Slab (NumberedValue V)) → AreInPlace m s → m ≡ keys_of s
+  unfolding keys_of
+  keys_are m s h = same m _ (λ q. by q (map.get m q) refl (map.get (keys_from 0 s.slots) q) refl) where
+    by : (q : ℕ) (o : Option ℕ) → map.get m q ≡ o → (p : Option ℕ) → map.get (keys_from 0 s.slots) q ≡ p → map.get m q ≡ map.get (keys_from 0 s.slots) q
+    by q None e None f = e ∙ sym f
+    by q (Some k) e None f = absurd (entry_listed 0 s.slots q k (h.kept q k e) f)
+    by q o e (Some k) f =
+        let x = listed_entry 0 s.slots q k f in
+        let is : k ≡ x.0 = omega (arith, x.1) in
+        stood m s h q k (ap (λ i. option_map (λ x. x.file) (slice_index_or s.slots i None)) is ∙ x.2) ∙ sym f
+
 -- The numbers change at f alone, and the slab at a key that no other number has.
 module _ {V : Type 0} (m n : Map ℕ) (s t : Slab (NumberedValue V)) (f key : ℕ) (w : Option ℕ) (x : Option (NumberedValue V))
     (keys : (q : ℕ) → map.get n q ≡ cond (nat_eq f q) w (map.get m q)) (slots : slab.Updates s t key x)
@@ -167,15 +226,6 @@ module _ {V : Type 0} (m n : Map ℕ) (s t : Slab (NumberedValue V)) (f key : �
         let far = eqb-false k key e in
         elsewhere k y far (h.found k y (sym (slots.others k far) ∙ at)) (nat_eq f y.file) refl
 
-module _ {V : Type 0} where
-  -- A map with a value put in at f has it there, and elsewhere what it had.
-  with_value : (m : Map V) (f : ℕ) (v : V) (q : ℕ) → cond (nat_eq f q) (Some v) (map.get m q) ≡ map.get (map.insert m f v) q
-  with_value m f v q = ap (λ b. cond b (Some v) (map.get m q)) (nat_eq_equiv.symm f q ∙ sym (unsigned_tied q f)) ∙ sym (get-insert nat_cmp_total m f v q)
-
-  -- A map without f has nothing at f, and elsewhere what it had.
-  without_value : (m : Map V) (f : ℕ) (q : ℕ) → cond (nat_eq f q) None (map.get m q) ≡ map.get (map.remove m f) q
-  without_value m f q = ap (λ b. cond b None (map.get m q)) (nat_eq_equiv.symm f q ∙ sym (unsigned_tied q f)) ∙ sym (get-remove nat_cmp_total m f q)
-
 -- A value more, in an empty key.
 module _ {V : Type 0} (m n : Map ℕ) (s t : Slab (NumberedValue V)) (f key : ℕ) (x : NumberedValue V) (h : AreInPlace m s) (vacant : slab.get s key ≡ None)
     (inserts : n ≡ map.insert m f key) (new : map.get m f ≡ None) (writes : slab.Updates s t key (Some x)) where
@@ -224,6 +274,56 @@ module _ {V : Type 0} (m n : Map ℕ) (s t : Slab (NumberedValue V)) (f key : �
   take_in_place less = in_place_then m n s t f key None None take_keys writes (own m s h f key was) h
       (λ k is. absurd (none_some k is)) (λ y is. absurd (none_some y is)) (λ k at. some_same k key (sym at ∙ was))
       (ap map.len take_values ∙ map.len-remove nat_cmp_total (values_of m s) f ∙ ap (λ b. cond b (map.len (values_of m s) - 1) (map.len (values_of m s))) was_there ∙ (let all = h.many in omega (arith, less)))
+
+-- The same by the keys of the entries.
+module _ {V : Type 0} (s t : Slab (NumberedValue V)) (f key : ℕ) (h : AreInPlace (keys_of s) s) where
+  -- A value was added, and one row at the end of the order with it.
+  module _ (x : NumberedValue V) (vacant : slab.get s key ≡ None) (new : map.get (keys_of s) f ≡ None) (writes : slab.Updates s t key (Some x)) (number : x.file ≡ f) (more : slab.slab_len t ≡ slab.slab_len s + 1) where
+    -- The number has this key.
+    came : map.insert (keys_of s) f key ≡ keys_of t
+    came = keys_are (map.insert (keys_of s) f key) t (put_in_place (keys_of s) (map.insert (keys_of s) f key) s t f key x h vacant refl new writes number more)
+
+    -- All are in place.
+    pub came_place : AreInPlace (keys_of t) t
+    came_place = subst (λ m. AreInPlace m t) came (put_in_place (keys_of s) (map.insert (keys_of s) f key) s t f key x h vacant refl new writes number more)
+
+    -- The number has this value.
+    pub came_values : values_of (keys_of t) t ≡ map.insert (values_of (keys_of s) s) f x.value
+    came_values = ap (λ m. values_of m t) (sym came) ∙ put_values (keys_of s) (map.insert (keys_of s) f key) s t f key x h vacant refl new writes
+
+    -- Each number has its row.
+    pub came_listed : (rows : List OrderRowView) → AreListed rows (keys_of s) → AreListed (rows ++ record { ino = f; key = key } ∷ []) (keys_of t)
+    came_listed rows listed q k at = by (nat_eq f q) refl where
+      by : (b : Bool) → nat_eq f q ≡ b → HasRow (rows ++ record { ino = f; key = key } ∷ []) q k
+      by true e =
+          let same_key = some_same key k (ap (λ b. cond b (Some key) (map.get (keys_of s) q)) (sym e) ∙ with_value (keys_of s) f key q ∙ ap (λ m. map.get m q) came ∙ at) in
+          in_right rows (record { ino = f; key = key } ∷ []) q k (0, omega arith, (λ i. record { ino = eqb-true f q e i; key = same_key i }))
+      by false e = in_left rows (record { ino = f; key = key } ∷ []) q k (listed q k (ap (λ b. cond b (Some key) (map.get (keys_of s) q)) (sym e) ∙ with_value (keys_of s) f key q ∙ ap (λ m. map.get m q) came ∙ at))
+
+  -- A value was removed.
+  module _ (was : map.get (keys_of s) f ≡ Some key) (writes : slab.Updates s t key None) (less : slab.slab_len t + 1 ≡ slab.slab_len s) where
+    -- The number has no key.
+    went : map.remove (keys_of s) f ≡ keys_of t
+    went = keys_are (map.remove (keys_of s) f) t (take_in_place (keys_of s) (map.remove (keys_of s) f) s t f key h refl was writes less)
+
+    -- All are in place.
+    pub went_place : AreInPlace (keys_of t) t
+    went_place = subst (λ m. AreInPlace m t) went (take_in_place (keys_of s) (map.remove (keys_of s) f) s t f key h refl was writes less)
+
+    -- The number has no value.
+    pub went_values : values_of (keys_of t) t ≡ map.remove (values_of (keys_of s) s) f
+    went_values = ap (λ m. values_of m t) (sym went) ∙ take_values (keys_of s) (map.remove (keys_of s) f) s t f key h refl was writes
+
+    -- It has no key.
+    pub went_none : map.get (keys_of t) f ≡ None
+    went_none = ap (λ m. map.get m f) (sym went) ∙ remove-here (keys_of s) f
+
+    -- Each other number has the key that it had.
+    pub went_had : (q k : ℕ) → map.get (keys_of t) q ≡ Some k → map.get (keys_of s) q ≡ Some k
+    went_had q k at = by (nat_eq f q) refl where
+      by : (b : Bool) → nat_eq f q ≡ b → map.get (keys_of s) q ≡ Some k
+      by true e = absurd (none_some k (ap (λ b. cond b None (map.get (keys_of s) q)) (sym e) ∙ without_value (keys_of s) f q ∙ ap (λ m. map.get m q) went ∙ at))
+      by false e = ap (λ b. cond b None (map.get (keys_of s) q)) (sym e) ∙ without_value (keys_of s) f q ∙ ap (λ m. map.get m q) went ∙ at
 
 -- Nothing to take away.
 pub take_nothing : {V : Type 0} (m : Map ℕ) (s : Slab (NumberedValue V)) (f : ℕ) → map.get m f ≡ None → values_of m s ≡ map.remove (values_of m s) f
@@ -288,21 +388,13 @@ module _ {V : Type 0} (m : Map ℕ) (s : Slab (NumberedValue V)) (f key : ℕ) (
         number : y.file ≡ f
         number = ino ∙ some_same x.file f (sym (ap (option_map (λ x. x.file)) at) ∙ h.kept f key was)
 
--- A hint that is written beside a value changes no value.
-module _ {V : Type 0} (m : Map ℕ) (s : Slab (NumberedValue V)) (key : ℕ) (x y : NumberedValue V) (h : AreInPlace m s) (at : slab.get s key ≡ Some x) where
-  -- All values are as before, if the entry keeps its value.
-  pub noted : y.value ≡ x.value → values_of m (slab.with_value s key y) ≡ values_of m s
-  noted e = write_same m s x.file key x y h (h.found key x at) at e
-
-  -- All are in place still, if the entry keeps its number.
-  pub noted_in_place : y.file ≡ x.file → AreInPlace m (slab.with_value s key y)
-  noted_in_place e = write_in_place m s x.file key x y h (h.found key x at) at e
+-- A value that is written in place changes no key.
+pub write_keys : {V : Type 0} (s : Slab (NumberedValue V)) (f key : ℕ) (x y : NumberedValue V) → AreInPlace (keys_of s) s → map.get (keys_of s) f ≡ Some key → slab.get s key ≡ Some x → y.file ≡ x.file
+    → keys_of s ≡ keys_of (slab.with_value s key y)
+write_keys s f key x y h was at ino = keys_are (keys_of s) (slab.with_value s key y) (write_in_place (keys_of s) s f key x y h was at ino)
 
 -- Look-ups.
 pub ruleset finds = (looked, missing, keyed, hinted, stood)
 
 -- Values that come and go.
 pub ruleset comes_and_goes = (looked, no_values, none_in_place, values_grown, grown_in_place, missing, keyed, put_values, put_in_place, put_new, take_values, take_in_place, take_nothing)
-
--- Hints that are written beside values.
-pub ruleset notes = (noted, noted_in_place)

@@ -1,15 +1,13 @@
 -- Numbers that only rise. Definitions that name no manual page are this project's own.
-use Rattle.std.specs.Prelude.{ℕ, Option}
-use Rattle.af_base.specs.World.{Map}
+use Rattle.std.specs.Prelude.{ℕ, List}
 
--- Each number that is there with its key, the last number that there was, and for how many more
--- there is room.
-pub record OrderView : Type 0 where
-  pub keys : Map ℕ
-  pub last : ℕ
-  pub room : ℕ
-
--- A row of the order: a number, and its key if it is live.
+-- A row of the order: a number, and the key of its value.
 pub record OrderRowView : Type 0 where
   pub ino : ℕ
-  pub key : Option ℕ
+  pub key : ℕ
+
+-- The rows, the last number that there was, and for how many more there is room.
+pub record OrderView : Type 0 where
+  pub rows : List OrderRowView
+  pub last : ℕ
+  pub room : ℕ

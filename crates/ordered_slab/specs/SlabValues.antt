@@ -1,12 +1,22 @@
 -- Values in a slab, under keys that are used again. Definitions that name no manual page are this
 -- project's own.
-use Rattle.std.specs.Prelude.{◌≡◌, ℕ, List, [], ◌∷◌, Option, Some, None}
+use Rattle.std.specs.Prelude.{◌≡◌, ℕ, ◌+◌, List, [], ◌∷◌, Option, Some, None}
 use Rattle.std.specs.Option.{option_map, option_map_or}
 use Rattle.std.specs.FinMap as map
 use Rattle.slab.specs.Slab as slab
 use Rattle.slab.specs.Slab.{Slab}
 use Rattle.af_base.specs.World.{Map}
 use Rattle.ordered_slab.specs.declared.numbered_value.NumberedValue.{NumberedValue}
+
+-- The keys of the numbers in these slots, the first of which has this key.
+abbrev pub keys_from : {V : Type 0} → ℕ → List (Option (NumberedValue V)) → Map ℕ
+keys_from key [] = map.empty
+keys_from key (None ∷ slots) = keys_from (key + 1) slots
+keys_from key (Some entry ∷ slots) = map.insert (keys_from (key + 1) slots) entry.file key
+
+-- Each number with the key of its entry.
+unfoldable pub keys_of : {V : Type 0} → Slab (NumberedValue V) → Map ℕ
+keys_of s = keys_from 0 s.slots
 
 -- The value at a key, if there is one.
 abbrev pub value_at : {V : Type 0} → Slab (NumberedValue V) → ℕ → Option V

@@ -1,8 +1,10 @@
 //! A table of values under numbers that only rise.
 #![tactic(auto)]
 
+mod changes;
 mod numbered;
 mod numbered_value;
 mod order;
+mod row;
 
 pub use numbered::OrderedSlab;

@@ -5,7 +5,8 @@ ghost use Rattle.std.specs.FinMap as map;
 ghost use Rattle.std.specs.Option.{option_copied_mut};
 ghost use Rattle.std.specs.Borrow.{sem};
 
-use crate::numbered_value::{NumberedValue, put, reserve, stands_at, take};
+use crate::changes::{put, reserve, take};
+use crate::numbered_value::{NumberedValue, stands_at};
 use crate::order::Order;
 use af_base::ids::{FileRef, Ino};
 use af_base::limits::MAX_INO;
@@ -24,7 +25,8 @@ pub struct OrderedSlab<T> {
 impl<T> Model for OrderedSlab<T> {
     ghost use Rattle.std.specs.Prelude.{◌-◌, ◌≤◌, min};
     ghost use Rattle.slab.specs.Slab.{slab_len};
-    ghost use Rattle.ordered_slab.specs.SlabValues.{AreInPlace, values_of};
+    ghost use Rattle.ordered_slab.specs.Rows.{AreListed};
+    ghost use Rattle.ordered_slab.specs.SlabValues.{AreInPlace, keys_of, values_of};
     ghost use Rattle.ordered_slab.specs.OrderedSlabView.{OrderedSlabView, numbered_code};
 
     ghost Value = { OrderedSlabView T };
@@ -32,12 +34,13 @@ impl<T> Model for OrderedSlab<T> {
     ghost coded = { numbered_code T.code };
 
     ghost view = { λ a. record {
-      values = values_of a.order.keys a.slab;
+      values = values_of (keys_of a.slab) a.slab;
       last = a.order.last;
       room = min a.order.room (a.slab.capacity - slab_len a.slab);
     } };
 
-    ghost invariant = { λ a. AreInPlace a.order.keys a.slab × (slab_len a.slab ≤ a.slab.capacity) };
+    ghost invariant = { λ a. AreInPlace (keys_of a.slab) a.slab
+        × AreListed a.order.rows (keys_of a.slab) × (slab_len a.slab ≤ a.slab.capacity) };
 }
 
 impl<T> OrderedSlab<T> {
@@ -130,7 +133,7 @@ impl<T> OrderedSlab<T> {
         {
             return Some(&entry.value);
         }
-        let key = self.order.key_of(file.ino())?;
+        let key = self.order.key_of(&self.slab, file.ino())?;
         let entry = self.slab.get(key)?;
         Some(&entry.value)
     }
@@ -147,7 +150,7 @@ impl<T> OrderedSlab<T> {
         if stands_at(&self.slab, key, file) {
             return Some(&mut self.slab[key].value);
         }
-        let key = self.order.key_of(file.ino())?;
+        let key = self.order.key_of(&self.slab, file.ino())?;
         Some(&mut self.slab[key].value)
     }
 
@@ -159,7 +162,7 @@ impl<T> OrderedSlab<T> {
             (f ≡ ino) × IsTrue (map.contains_key self.now.values ino)) }
         ensures none { IfNone result (map.contains_key self.now.values ino ≡ false) }
     {
-        let key = self.order.key_of(ino)?;
+        let key = self.order.key_of(&self.slab, ino)?;
         Some(FileRef::new(ino, key))
     }
 
@@ -176,6 +179,6 @@ impl<T> OrderedSlab<T> {
         ensures none { IfNone result
             ((q : ℕ) → ino < q → map.contains_key self.now.values q ≡ false) }
     {
-        self.order.next_after(ino, at)
+        self.order.next_after(&self.slab, ino, at)
     }
 }

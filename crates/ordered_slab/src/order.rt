@@ -1,187 +1,78 @@
 //! The order of numbers that only rise.
 //!
-//! A packing reads `rows` from the front, and moves each live row to the end of `packed`; what it
-//! has read is dead. When all was read, the two lists change places. So a number is live in
-//! `packed` or in the part of `rows` that was not read, and a look-up asks both.
-ghost use Rattle.std.specs.Prelude.{◌≡◌, ◌≢◌, ℕ, ◌+◌, ◌≤◌, ◌<◌, ◌++◌, length, false, true, is_some};
-ghost use Rattle.std.specs.Prelude.{None, Some, IsTrue, IsSome, IfSome, IfNone, IsOk, OnOk, OnErr};
+//! A removal leaves the number's row, dead. A packing reads `rows` from the front, and copies each
+//! live row to the end of `packed`. When all was read, the two lists change places. So the rows are
+//! those of `packed` and the part of `rows` that was not read.
+ghost use Rattle.std.specs.Prelude.{◌≡◌, ℕ, ◌+◌, ◌^◌, ◌≤◌, ◌<◌, ◌++◌, ◌∷◌, [], length, true};
+ghost use Rattle.std.specs.Prelude.{Some, IsTrue, IsSome, IfSome, IfNone, IsOk, OnOk, None};
 ghost use Rattle.std.specs.FinMap as map;
-ghost use Rattle.ordered_slab.specs.OrderView.{OrderView};
-ghost use Rattle.ordered_slab.specs.Rows.{live_of, row_at, Rise, IsLiveAt, IsPosition};
+ghost use Rattle.ordered_slab.specs.Rows.{row_at, Rise, HasRow, AreListed, KeepsLive};
+ghost use Rattle.ordered_slab.specs.SlabValues.{AreInPlace, keys_of};
 
+use crate::numbered_value::{NumberedValue, is_live, stands_at};
+use crate::row::OrderRow;
 use af_base::ids::{FileRef, Ino};
 use af_base::limits::MAX_INO;
+use slab::Slab;
 use std::alloc::{AllocError, Global};
 use std::marker::Model;
 use std::mem;
+use std::snapshot::Snapshot;
 
-/// Packing begins if at least this many rows are dead, and more than half of all.
-const LEAST_DEAD: usize = 64;
+/// Packing begins if dead rows outnumber live ones by over twice this many.
+const LEAST_DEAD: usize = 32;
 
 /// At most this many dead rows are passed over in one step of packing.
 const PASSED_AT_ONCE: usize = 16;
 
-/// The key of a dead row. No slab has a value under it.
-const NO_KEY: usize = usize::MAX;
+/// How many steps of packing a new number pays for: more than one, so that packing comes to an end.
+const PACKED_AT_ONCE: usize = 4;
 
-/// A number and the key under which it is to be found. A row with no key is dead: its number was
-/// removed, or was moved to another row.
-#[derive(Drop)]
-struct OrderRow {
-    /// The number, with the key as a hint, as a walk returns it.
-    file: FileRef,
-    /// The key, or `NO_KEY`: an `Option` would take eight bytes more.
-    key: usize,
-}
-
-impl Model for OrderRow {
-    ghost use Rattle.std.specs.Prelude.{◌≤◌, ◌<◌, None, Some, if◌then◌else◌, nat_eq};
-    ghost use Rattle.af_base.specs.declared.limits.TheConstants.{MAX_INO};
-    ghost use Rattle.ordered_slab.specs.OrderView.{OrderRowView};
-    ghost use Rattle.ordered_slab.specs.declared.order.TheConstants.{NO_KEY};
-
-    ghost Value = { OrderRowView };
-
-    ghost view = { λ a. record {
-      ino = a.file;
-      key = if nat_eq a.key NO_KEY then None else Some a.key;
-    } };
-
-    ghost invariant = { λ a. (0 < a.file) × (a.file ≤ MAX_INO) };
-}
-
-impl OrderRow {
-    /// Makes a live row.
-    #[inline(always)]
-    fn new(ino: Ino, key: usize) -> OrderRow
-        requires some { 0 < ino }
-        requires number { ino ≤ MAX_INO }
-        requires key { key < NO_KEY }
-        ensures { result ≡ record { ino = ino; key = Some key } }
-    {
-        let file = FileRef::new(ino, key);
-        OrderRow { file, key }
-    }
-
-    /// Returns its number, which is not 0.
-    #[inline(always)]
-    fn number(&self) -> Ino
-        ensures number { result ≡ self.now.ino }
-        ensures some { 0 < result }
-    {
-        self.file.ino()
-    }
-
-    /// Returns its key, if it is live.
-    #[inline(always)]
-    fn key(&self) -> Option<usize>
-        ensures key { result ≡ self.now.key }
-        ensures number { self.now.ino ≤ MAX_INO }
-    {
-        if self.key == NO_KEY {
-            None
-        } else {
-            Some(self.key)
-        }
-    }
-
-    /// Returns whether it is live.
-    #[inline(always)]
-    fn is_live(&self) -> bool
-        ensures { result ≡ is_some self.now.key }
-    {
-        self.key != NO_KEY
-    }
-
-    /// Returns a reference to its number, with its key as a hint.
-    #[inline(always)]
-    fn file(&self) -> FileRef
-        ensures { result ≡ self.now.ino }
-    {
-        self.file.duplicate()
-    }
-
-    /// Returns a copy of this row.
-    #[inline(always)]
-    fn duplicate(&self) -> OrderRow
-        ensures { result ≡ self.now }
-    {
-        OrderRow {
-            file: self.file.duplicate(),
-            key: self.key,
-        }
-    }
-
-    /// Makes it dead, and returns its key, if it was live.
-    #[inline(always)]
-    fn take_key(&mut self) -> Option<usize>
-        ensures key { result ≡ self.old.key }
-        ensures dead { self.new ≡ record self.old { key = None } }
-    {
-        let key = self.key();
-        self.key = NO_KEY;
-        key
-    }
-}
-
-/// The position of a row.
-enum Position {
-    /// Among those that were packed.
-    Packed(usize),
-    /// Among those that are not packed yet.
-    Unpacked(usize),
-}
-
-/// Numbers in order, each with its key. A removed number leaves a dead row; the live ones are
-/// packed a few at a time, so that each event has a bounded cost.
+/// Numbers in order, each with its key. A number whose value is removed leaves a dead row; the live
+/// ones are packed a few at a time, so that each event has a bounded cost.
 #[derive(Drop)]
 pub struct Order {
-    /// The rows that were moved here, rising. All are below the live ones of `rows`. There is
-    /// always room here for as many as there are `rows`, so that packing needs no memory.
+    /// The rows that were copied here, rising. There is always room here for as many as there are
+    /// `rows`, so that packing needs no memory.
     packed: Vec<OrderRow>,
-    /// The other rows, rising.
+    /// The other rows, rising, behind those that a packing has read.
     rows: Vec<OrderRow>,
-    /// How many of `rows` a packing has read: they are dead.
+    /// How many of `rows` a packing has read.
     read: usize,
-    /// How many rows are dead in all. It only says when to pack.
-    dead: usize,
-    /// The last number that was pushed, 0 before the first.
-    last: u64,
+    /// The last number that was pushed, 0 before the first: for contracts alone.
+    last: Snapshot<Ino>,
 }
 
 impl Model for Order {
-    ghost use Rattle.std.specs.Prelude.{◌-◌, ◌≤◌, ◌++◌, min, vec_capacity, length};
-    ghost use Rattle.std.specs.FinMap as map;
-    ghost use Rattle.std.specs.Coded.{codes};
+    ghost use Rattle.std.specs.Prelude.{◌-◌, ◌≤◌, ◌++◌, drop, min, vec_capacity, length};
     ghost use Rattle.ordered_slab.specs.OrderView.{OrderView};
-    ghost use Rattle.ordered_slab.specs.Rows.{live_of, AreRows};
+    ghost use Rattle.ordered_slab.specs.Rows.{AllUpTo, Rise};
 
     ghost Value = { OrderView };
 
-    ghost coded = { Prim.hlevel (codes, map.code) };
-
     ghost view = { λ a. record {
-      keys = live_of (a.packed.items ++ a.rows.items);
-      last = a.last;
+      rows = a.packed.items ++ drop a.read a.rows.items;
+      last = a.last.value;
       room = min (vec_capacity a.packed) (vec_capacity a.rows) - length a.rows.items;
     } };
 
-    ghost invariant = { λ a. AreRows a.packed.items a.rows.items a.read a.last
+    ghost invariant = { λ a. Rise (a.packed.items ++ drop a.read a.rows.items)
+        × AllUpTo a.last.value (a.packed.items ++ drop a.read a.rows.items)
+        × (a.read ≤ length a.rows.items)
         × (length a.packed.items ≤ a.read) × (length a.rows.items ≤ vec_capacity a.packed) };
 }
 
 impl Order {
     /// Makes an empty order. Takes no memory.
     pub fn new(alloc: Global) -> Order
-        ensures keys { result.keys ≡ map.empty }
+        ensures rows { result.rows ≡ [] }
         ensures last { result.last ≡ 0 }
     {
         Order {
             packed: Vec::new(alloc),
             rows: Vec::new(alloc),
             read: 0,
-            dead: 0,
-            last: 0,
+            last: Snapshot::of(&Ino(0)),
         }
     }
 
@@ -208,145 +99,171 @@ impl Order {
         self.packed.capacity().min(self.rows.capacity()) - self.rows.len()
     }
 
-    /// Returns the position of the next number, which `remove` takes as a hint.
-    #[inline(always)]
-    pub fn next_position(&self) -> usize {
-        self.rows.len()
-    }
-
     /// Adds a number, above all earlier ones, with its key. There is room for it.
     #[inline(always)]
     pub fn push(&mut self, ino: Ino, key: usize)
         requires room { 0 < self.old.room }
         requires above { self.old.last < ino }
         requires number { ino ≤ MAX_INO }
-        requires key { key < NO_KEY }
-        ensures keys { self.new.keys ≡ map.insert self.old.keys ino key }
-        ensures new { map.get self.old.keys ino ≡ None }
+        ensures rows { self.new.rows ≡ self.old.rows ++ record { ino = ino; key = key } ∷ [] }
+        ensures new { (k : ℕ) → HasRow self.old.rows ino k → ⊥ }
         ensures last { self.new.last ≡ ino }
         ensures room { self.old.room ≤ self.new.room + 1 }
     {
         self.rows.push_reserved(OrderRow::new(ino, key));
-        self.last = ino.0;
+        self.last = Snapshot::of(&ino);
     }
 
-    /// Removes the number, and returns its key. The position is a hint. Takes no memory.
+    /// Takes the last row away if it is of this number, whose value was removed, and the one before
+    /// it, if it is dead. So files that come and go in turn leave no rows.
     #[inline(always)]
-    pub fn remove(&mut self, ino: Ino, at: usize) -> Option<usize>
-        ensures value { result ≡ map.get self.old.keys ino }
-        ensures keys { self.new.keys ≡ map.remove self.old.keys ino }
+    pub fn trim<T>(&mut self, slab: &Slab<NumberedValue<T>>, file: &FileRef)
+        requires place { AreInPlace (keys_of slab.now) slab.now }
+        requires gone { map.get (keys_of slab.now) file.now ≡ None }
+        ensures kept { KeepsLive (keys_of slab.now) self.old.rows self.new.rows }
         ensures last { self.new.last ≡ self.old.last }
         ensures room { self.old.room ≤ self.new.room }
     {
-        match place_of(&self.packed, &self.rows, ino, at) {
-            Some(Position::Unpacked(at)) => {
-                if at + 1 == self.rows.len() {
-                    let key = self.rows.take_last().key();
-                    self.pop_dead();
-                    return key;
-                }
-                self.dead = self.dead.saturating_add(1);
-                self.rows[at].take_key()
-            }
-            Some(Position::Packed(at)) => {
-                self.dead = self.dead.saturating_add(1);
-                self.packed[at].take_key()
-            }
-            None => None,
+        if self.read < self.rows.len() && self.rows[self.rows.len() - 1].number() == file.ino() {
+            self.rows.take_last();
+            self.pop_dead(slab);
         }
     }
 
     /// Takes the last row away, if it is dead and no packing has read it.
     #[inline(always)]
-    fn pop_dead(&mut self)
-        ensures keys { self.new.keys ≡ self.old.keys }
+    fn pop_dead<T>(&mut self, slab: &Slab<NumberedValue<T>>)
+        requires place { AreInPlace (keys_of slab.now) slab.now }
+        ensures kept { KeepsLive (keys_of slab.now) self.old.rows self.new.rows }
         ensures last { self.new.last ≡ self.old.last }
         ensures room { self.old.room ≤ self.new.room }
     {
-        if self.read < self.rows.len() && !self.rows[self.rows.len() - 1].is_live() {
+        // Mostly no row is dead.
+        if self.rows.len() > slab.len()
+            && self.read < self.rows.len()
+            && !is_live(slab, &self.rows[self.rows.len() - 1])
+        {
             self.rows.take_last();
-            self.dead = self.dead.saturating_sub(1);
         }
     }
 
-    /// Returns the key of the number, if it is there, by a binary search.
+    /// Returns the key of the number, if it has a value, by a binary search.
     #[cold]
     #[inline(never)]
-    pub fn key_of(&self, ino: Ino) -> Option<usize>
-        ensures key { result ≡ map.get self.now.keys ino }
+    pub fn key_of<T>(&self, slab: &Slab<NumberedValue<T>>, ino: Ino) -> Option<usize>
+        requires place { AreInPlace (keys_of slab.now) slab.now }
+        requires listed { AreListed self.now.rows (keys_of slab.now) }
+        ensures key { result ≡ map.get (keys_of slab.now) ino }
         ensures number { IsSome result → ino ≤ MAX_INO }
     {
-        match key_in(&self.packed, ino) {
+        match key_in(slab, &self.packed, ino) {
             Some(key) => Some(key),
-            None => key_in(&self.rows, ino),
+            None => key_in(slab, &self.rows[self.read..], ino),
         }
     }
 
-    /// Returns the least number above this one, if there is one, with its key as a hint, and the
-    /// position behind it for the next call. This number need not be known. The position passed in
-    /// is a hint.
+    /// Returns the least number above this one that has a value, if there is one, with its key as a
+    /// hint, and the position behind it for the next call. This number need not be known. The
+    /// position passed in is a hint.
     #[inline(always)]
-    pub fn next_after(&self, ino: Ino, at: usize) -> Option<(FileRef, usize)>
+    pub fn next_after<T>(
+        &self,
+        slab: &Slab<NumberedValue<T>>,
+        ino: Ino,
+        at: usize,
+    ) -> Option<(FileRef, usize)>
+        requires place { AreInPlace (keys_of slab.now) slab.now }
+        requires listed { AreListed self.now.rows (keys_of slab.now) }
         ensures above { IfSome result (λ n. ino < n.0) }
-        ensures there { IfSome result (λ n. IsTrue (map.contains_key self.now.keys n.0)) }
+        ensures there { IfSome result (λ n. IsTrue (map.contains_key (keys_of slab.now) n.0)) }
         ensures least { IfSome result (λ n.
-            (q : ℕ) → ino < q → q < n.0 → map.contains_key self.now.keys q ≡ false) }
-        ensures none { IfNone result
-            ((q : ℕ) → ino < q → map.contains_key self.now.keys q ≡ false) }
+            (q : ℕ) → ino < q → q < n.0 → map.get (keys_of slab.now) q ≡ None) }
+        ensures none { IfNone result ((q : ℕ) → ino < q → map.get (keys_of slab.now) q ≡ None) }
     {
-        // Most numbers are consecutive: then one look at one row is enough.
-        if let Some(row) = self.rows.get(at)
-            && row.number().0 - 1 == ino.0
-            && row.is_live()
+        // Mostly the position is right and the row there live: then one look is enough.
+        if let Some(row) = self.next_at(ino, at)
+            && stands_at(slab, row.file().key(), row.file())
         {
-            return Some((row.file(), at + 1));
+            return Some((row.file().duplicate(), at + 1));
         }
-        self.search_next(ino, at)
+        self.search_next(slab, ino, at)
     }
 
-    /// Returns the answer of `next_after` by a search, where the numbers are not consecutive.
-    #[inline(never)]
-    fn search_next(&self, ino: Ino, at: usize) -> Option<(FileRef, usize)>
-        ensures above { IfSome result (λ n. ino < n.0) }
-        ensures there { IfSome result (λ n. IsTrue (map.contains_key self.now.keys n.0)) }
-        ensures least { IfSome result (λ n.
-            (q : ℕ) → ino < q → q < n.0 → map.contains_key self.now.keys q ≡ false) }
-        ensures none { IfNone result
-            ((q : ℕ) → ino < q → map.contains_key self.now.keys q ≡ false) }
-    {
-        match next_in(&self.packed, ino, at) {
-            Some(next) => Some(next),
-            None => next_in(&self.rows, ino, at),
-        }
-    }
-
-    /// Performs one bounded step of packing, if one is due: dead rows leave, and at most one live
-    /// row moves. Returns that row's key and new position, which `remove` takes as a hint. Takes no
-    /// memory.
+    /// Returns the first row above this number, if it is at this position.
     #[inline(always)]
-    pub fn pack(&mut self) -> Option<(usize, usize)>
-        ensures keys { self.new.keys ≡ self.old.keys }
+    fn next_at(&self, ino: Ino, at: usize) -> Option<&OrderRow>
+        ensures above { IfSome result (λ row. ino < row.now.ino) }
+        ensures least { IfSome result (λ row.
+            (q k : ℕ) → HasRow self.now.rows q k → ino < q → row.now.ino ≤ q) }
+        ensures position { IsSome result → at + 1 < 2 ^ 64 }
+    {
+        let row = self.rows.get(at)?;
+        // Most numbers are consecutive.
+        if row.number().0 - 1 == ino.0 || self.read == 0 && is_between(&self.rows, ino, at) {
+            Some(row)
+        } else {
+            None
+        }
+    }
+
+    /// Returns the answer of `next_after` by a search.
+    #[inline(never)]
+    fn search_next<T>(
+        &self,
+        slab: &Slab<NumberedValue<T>>,
+        ino: Ino,
+        at: usize,
+    ) -> Option<(FileRef, usize)>
+        requires place { AreInPlace (keys_of slab.now) slab.now }
+        requires listed { AreListed self.now.rows (keys_of slab.now) }
+        ensures above { IfSome result (λ n. ino < n.0) }
+        ensures there { IfSome result (λ n. IsTrue (map.contains_key (keys_of slab.now) n.0)) }
+        ensures least { IfSome result (λ n.
+            (q : ℕ) → ino < q → q < n.0 → map.get (keys_of slab.now) q ≡ None) }
+        ensures none { IfNone result ((q : ℕ) → ino < q → map.get (keys_of slab.now) q ≡ None) }
+    {
+        if let Some(next) = next_in(slab, &self.packed, ino, at) {
+            return Some(next);
+        }
+        let at = at.saturating_sub(self.read);
+        let (file, at) = next_in(slab, &self.rows[self.read..], ino, at)?;
+        Some((file, at.saturating_add(self.read)))
+    }
+
+    /// Performs some steps of packing, if one is due: dead rows leave, and each step moves at most
+    /// one live row. Takes no memory.
+    #[inline(always)]
+    pub fn pack<T>(&mut self, slab: &Slab<NumberedValue<T>>)
+        requires place { AreInPlace (keys_of slab.now) slab.now }
+        ensures kept { KeepsLive (keys_of slab.now) self.old.rows self.new.rows }
         ensures last { self.new.last ≡ self.old.last }
         ensures room { self.old.room ≤ self.new.room }
     {
-        if self.read == 0 && !self.is_due() {
-            return None;
+        if self.read > 0 || self.rows.len() / 2 > slab.len().saturating_add(LEAST_DEAD) {
+            self.pack_some(slab);
         }
-        if self.finish() {
-            return None;
-        }
-        self.pass();
-        self.step()
     }
 
-    /// Returns whether packing is due.
-    fn is_due(&self) -> bool {
-        self.dead >= LEAST_DEAD && self.dead > self.rows.len() / 2
+    /// Performs some steps of packing.
+    #[inline(never)]
+    fn pack_some<T>(&mut self, slab: &Slab<NumberedValue<T>>)
+        requires place { AreInPlace (keys_of slab.now) slab.now }
+        ensures kept { KeepsLive (keys_of slab.now) self.old.rows self.new.rows }
+        ensures last { self.new.last ≡ self.old.last }
+        ensures room { self.old.room ≤ self.new.room }
+    {
+        for _ in 0..PACKED_AT_ONCE {
+            if self.finish() {
+                return;
+            }
+            self.pass(slab);
+            self.step();
+        }
     }
 
     /// Replaces the rows by the packed ones, if all rows were read. Returns whether it did.
     fn finish(&mut self) -> bool
-        ensures keys { self.new.keys ≡ self.old.keys }
+        ensures rows { self.new.rows ≡ self.old.rows }
         ensures last { self.new.last ≡ self.old.last }
         ensures room { self.old.room ≤ self.new.room }
     {
@@ -354,15 +271,15 @@ impl Order {
             return false;
         }
         mem::swap(&mut self.packed, &mut self.rows);
-        self.dead = self.dead.saturating_sub(self.packed.len());
         self.packed.clear();
         self.read = 0;
         true
     }
 
     /// Passes a few dead rows at most.
-    fn pass(&mut self)
-        ensures keys { self.new.keys ≡ self.old.keys }
+    fn pass<T>(&mut self, slab: &Slab<NumberedValue<T>>)
+        requires place { AreInPlace (keys_of slab.now) slab.now }
+        ensures kept { KeepsLive (keys_of slab.now) self.old.rows self.new.rows }
         ensures last { self.new.last ≡ self.old.last }
         ensures room { self.old.room ≤ self.new.room }
     {
@@ -370,128 +287,94 @@ impl Order {
             .rows
             .len()
             .min(self.read.saturating_add(PASSED_AT_ONCE));
-        self.read = first_live(&self.rows, self.read, end);
+        self.read = first_live(slab, &self.rows, self.read, end);
     }
 
-    /// Moves the first row that was not read, if it is live. Returns its key and new position.
-    fn step(&mut self) -> Option<(usize, usize)>
-        ensures keys { self.new.keys ≡ self.old.keys }
+    /// Copies the first row that was not read to the end of `packed`.
+    fn step(&mut self)
+        ensures rows { self.new.rows ≡ self.old.rows }
         ensures last { self.new.last ≡ self.old.last }
         ensures room { self.old.room ≤ self.new.room }
     {
-        if self.read >= self.rows.len() {
-            return None;
+        if self.read < self.rows.len() {
+            self.packed.push_reserved(self.rows[self.read].duplicate());
+            self.read += 1;
         }
-        let row = self.rows[self.read].duplicate();
-        let key = row.key()?;
-        let at = self.packed.len();
-        self.packed.push_reserved(row);
-        self.rows[self.read].take_key();
-        self.read += 1;
-        self.dead = self.dead.saturating_add(1);
-        Some((key, at))
     }
 }
 
-/// Returns the position of the number. Tries this position in both lists first, before a search.
-#[inline(always)]
-fn place_of(packed: &[OrderRow], rows: &[OrderRow], ino: Ino, at: usize) -> Option<Position>
-    requires packed { Rise packed.now }
-    requires rows { Rise rows.now }
-    ensures place { IfSome result (IsPosition packed.now rows.now ino) }
-    ensures none { IfNone result (map.get (live_of (packed.now ++ rows.now)) ino ≡ None) }
-{
-    if is_live_at(rows, ino, at) {
-        return Some(Position::Unpacked(at));
-    }
-    if is_live_at(packed, ino, at) {
-        return Some(Position::Packed(at));
-    }
-    if let Some(at) = find(rows, ino) {
-        return Some(Position::Unpacked(at));
-    }
-    match find(packed, ino) {
-        Some(at) => Some(Position::Packed(at)),
-        None => None,
-    }
-}
-
-/// Returns whether this very number is live at this place.
-#[inline(always)]
-fn is_live_at(rows: &[OrderRow], ino: Ino, at: usize) -> bool
-    ensures { IsTrue result → IsLiveAt rows.now ino at }
-{
-    match rows.get(at) {
-        Some(row) => row.number() == ino && row.is_live(),
-        None => false,
-    }
-}
-
-/// Returns the position of the live number.
-#[inline(never)]
-fn find(rows: &[OrderRow], ino: Ino) -> Option<usize>
-    requires { Rise rows.now }
-    ensures place { IfSome result (IsLiveAt rows.now ino) }
-    ensures none { IfNone result (map.get (live_of rows.now) ino ≡ None) }
+/// Returns the key of the number, if it has a value and a row among these.
+fn key_in<T>(slab: &Slab<NumberedValue<T>>, rows: &[OrderRow], ino: Ino) -> Option<usize>
+    requires place { AreInPlace (keys_of slab.now) slab.now }
+    requires rise { Rise rows.now }
+    ensures key { IfSome result (λ k. map.get (keys_of slab.now) ino ≡ Some k) }
+    ensures none { IfNone result
+        ((k : ℕ) → map.get (keys_of slab.now) ino ≡ Some k → HasRow rows.now ino k → ⊥) }
+    ensures number { IsSome result → ino ≤ MAX_INO }
 {
     match rows.binary_search_by_key(&ino.0, |row| row.number().0) {
-        Ok(at) => { if rows[at].is_live() { Some(at) } else { None } }
+        Ok(at) => {
+            if is_live(slab, &rows[at]) {
+                Some(rows[at].key())
+            } else {
+                None
+            }
+        }
         Err(_) => None,
     }
 }
 
-/// Returns the key of the number among these rows.
-fn key_in(rows: &[OrderRow], ino: Ino) -> Option<usize>
-    requires { Rise rows.now }
-    ensures key { result ≡ map.get (live_of rows.now) ino }
-    ensures number { IsSome result → ino ≤ MAX_INO }
-{
-    match find(rows, ino) {
-        Some(at) => rows[at].key(),
-        None => None,
-    }
-}
-
-/// Returns the first live row from this position to that end, or the end.
+/// Returns the position of the first live row from this one to that end, or the end.
 #[inline(always)]
-fn first_live(rows: &[OrderRow], from: usize, end: usize) -> usize
+fn first_live<T>(slab: &Slab<NumberedValue<T>>, rows: &[OrderRow], from: usize, end: usize) -> usize
+    requires place { AreInPlace (keys_of slab.now) slab.now }
     requires from { from ≤ end }
     requires end { end ≤ length rows.now }
     ensures from { from ≤ result }
     ensures end { result ≤ end }
-    ensures dead { (j : ℕ) → from ≤ j → j < result → (row_at rows.now j).key ≡ None }
-    ensures live { result < end → (row_at rows.now result).key ≢ None }
+    ensures dead { (j q k : ℕ) → from ≤ j → j < result
+        → row_at rows.now j ≡ record { ino = q; key = k }
+        → map.get (keys_of slab.now) q ≡ Some k → ⊥ }
+    ensures live { result < end → map.get (keys_of slab.now) (row_at rows.now result).ino
+        ≡ Some (row_at rows.now result).key }
 {
     for at in from..end {
-        if rows[at].is_live() {
+        if is_live(slab, &rows[at]) {
             return at;
         }
     }
     end
 }
 
-/// Returns the least live number above this one among these rows, and the position behind it. The
-/// position behind this one is a hint.
+/// Returns the least number above this one that has a value, among these rows, and the position
+/// behind it. The position behind this one is a hint.
 #[inline(always)]
-fn next_in(rows: &[OrderRow], ino: Ino, at: usize) -> Option<(FileRef, usize)>
-    requires { Rise rows.now }
+fn next_in<T>(
+    slab: &Slab<NumberedValue<T>>,
+    rows: &[OrderRow],
+    ino: Ino,
+    at: usize,
+) -> Option<(FileRef, usize)>
+    requires place { AreInPlace (keys_of slab.now) slab.now }
+    requires rise { Rise rows.now }
     ensures above { IfSome result (λ n. ino < n.0) }
-    ensures there { IfSome result (λ n. IsTrue (map.contains_key (live_of rows.now) n.0)) }
-    ensures least { IfSome result (λ n.
-        (q : ℕ) → ino < q → q < n.0 → map.contains_key (live_of rows.now) q ≡ false) }
-    ensures none { IfNone result
-        ((q : ℕ) → ino < q → map.contains_key (live_of rows.now) q ≡ false) }
+    ensures live { IfSome result (λ n. (k : ℕ) × (map.get (keys_of slab.now) n.0 ≡ Some k)
+        × HasRow rows.now n.0 k) }
+    ensures least { IfSome result (λ n. (q k : ℕ) → ino < q → q < n.0
+        → map.get (keys_of slab.now) q ≡ Some k → HasRow rows.now q k → ⊥) }
+    ensures none { IfNone result ((q k : ℕ) → ino < q
+        → map.get (keys_of slab.now) q ≡ Some k → HasRow rows.now q k → ⊥) }
 {
     // Mostly nothing is being packed.
     if rows.is_empty() {
         return None;
     }
     let from = rows_up_to(rows, ino, at);
-    let at = first_live(rows, from, rows.len());
+    let at = first_live(slab, rows, from, rows.len());
     if at == rows.len() {
         return None;
     }
-    Some((rows[at].file(), at + 1))
+    Some((rows[at].file().duplicate(), at + 1))
 }
 
 /// Returns how many rows have a number up to this one. Tries this position first. Most numbers are

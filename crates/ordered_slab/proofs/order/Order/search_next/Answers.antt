@@ -1,48 +1,56 @@
-use Rattle.std.proofs.Common.{◌≡◌, ℕ, false, subst}
-use Rattle.std.specs.Prelude.{Option, Some, None, IsTrue, IfNone}
-use Rattle.std.proofs.lemmas.Option.{IfSome_then}
+use Rattle.std.proofs.Common.{◌≡◌, ◌<◌, ℕ, inl, inr, drop, sym, ap, subst, ◌∙◌, arith}
+use Rattle.std.specs.Prelude.{Option, Some, None, IfNone}
 use Rattle.std.specs.FinMap as map
-use Rattle.ordered_slab.specs.Rows.{live_of}
-use Rattle.ordered_slab.proofs.Moves.{absent, there_packed, there_waiting, before_packed}
+use Rattle.ordered_slab.specs.Rows.{row_at, Rise, HasRow}
+use Rattle.ordered_slab.specs.SlabValues.{keys_of}
+use Rattle.ordered_slab.proofs.Rows.{in_either, rest, rise_across, rise_left, rise_right}
+use Rattle.ordered_slab.proofs.Searches.{nowhere}
 use Rattle.ordered_slab.proofs.order.Order.search_next.Goals as goal
 
-pub returns-in-Some-clause-there : goal.returns-in-Some-clause-there
-returns-in-Some-clause-there c =
-    let packed = subst (λ rows. IsTrue (map.contains_key (live_of rows) c.in-Some.next.0)) c.deref.ensures.value c.in-Some.ensures.there in
-    subst (λ a. IsTrue (map.contains_key a.keys c.in-Some.next.0)) c.self.view_is
-    (there_packed c.self.inside.packed.items c.self.inside.rows.items c.self.inside.read c.self.inside.last c.self.invariant.0 c.in-Some.next.0 packed)
+pub next_in-requires-clause-rise : goal.next_in-requires-clause-rise
+next_in-requires-clause-rise g c =
+    subst Rise (sym c.deref.ensures.value) (rise_left c.self.inside.packed.items (drop c.self.inside.read c.self.inside.rows.items) c.self.invariant.0)
 
 pub returns-in-Some-clause-least : goal.returns-in-Some-clause-least
-returns-in-Some-clause-least c = λ q above before.
-    let packed = subst (λ rows. IsTrue (map.contains_key (live_of rows) c.in-Some.next.0)) c.deref.ensures.value c.in-Some.ensures.there in
-    let not_packed = subst (λ rows. map.contains_key (live_of rows) q ≡ false) c.deref.ensures.value (c.in-Some.ensures.least q above before) in
-    let not_waiting = before_packed c.self.inside.packed.items c.self.inside.rows.items c.self.inside.read c.self.inside.last c.self.invariant.0 c.in-Some.next.0 q packed before in
-    subst (λ a. map.contains_key a.keys q ≡ false) c.self.view_is
-    (absent c.self.inside.packed.items c.self.inside.rows.items c.self.inside.read c.self.inside.last c.self.invariant.0 q not_packed not_waiting)
+returns-in-Some-clause-least g c = λ q above before. nowhere (keys_of c.args.slab.now) q (λ k at.
+    let packed = c.self.inside.packed.items in
+    let unread = drop c.self.inside.read c.self.inside.rows.items in
+    let x = subst (λ a. HasRow a.rows q k) (sym c.self.view_is) (c.requires.listed q k at) in
+    let next = c.in-Some.ensures.live.2 in
+    let here = subst (λ xs. HasRow xs c.in-Some.next.0 c.in-Some.ensures.live.0) c.deref.ensures.value next in
+    elim (in_either packed unread q k x) [
+      | inl a ↦ c.in-Some.ensures.least q k above before at (subst (λ xs. HasRow xs q k) (sym c.deref.ensures.value) a)
+      | inr a ↦ let o = rise_across packed unread c.self.invariant.0 here.0 a.0 here.1 a.1 in omega (arith, o, before, ap (λ r. r.ino) here.2, ap (λ r. r.ino) a.2)
+    ])
 
--- The end of an empty list.
-if_none : {X : Type 0} (o : Option X) {P Q : Type 0} → IfNone o P → (P → Q) → IfNone o Q
-if_none None h f = f h
-if_none (Some x) h f = h
+pub next_in-requires-2-clause-rise : goal.next_in-requires-2-clause-rise
+next_in-requires-2-clause-rise g c =
+    let unread = rest c.deref-2.result.now c.self.inside.read ∙ ap (drop c.self.inside.read) c.deref-2.ensures.value in
+    subst Rise (sym unread) (rise_right c.self.inside.packed.items (drop c.self.inside.read c.self.inside.rows.items) c.self.invariant.0)
 
--- A number in neither list is unknown.
-neither : (c : goal.After-next_in-in-None) (q : ℕ) → map.contains_key (live_of c.deref.result.now) q ≡ false → map.contains_key (live_of c.deref-in-None.result.now) q ≡ false → map.contains_key c.args.self.now.keys q ≡ false
-neither c q packed waiting =
-    let a = subst (λ rows. map.contains_key (live_of rows) q ≡ false) c.deref.ensures.value packed in
-    let b = subst (λ rows. map.contains_key (live_of rows) q ≡ false) c.deref-in-None.ensures.value waiting in
-    subst (λ a. map.contains_key a.keys q ≡ false) c.self.view_is
-    (absent c.self.inside.packed.items c.self.inside.rows.items c.self.inside.read c.self.inside.last c.self.invariant.0 q a b)
+-- A fact holds if there is nothing, as it holds in any case.
+if_none : {X P : Type 0} (o : Option X) → P → IfNone o P
+if_none None p = p
+if_none (Some x) p = tt
 
-pub returns-in-None-clause-there : goal.returns-in-None-clause-there
-returns-in-None-clause-there c = IfSome_then c.next_in-in-None.result c.next_in-in-None.ensures.there (λ n there.
-    subst (λ a. IsTrue (map.contains_key a.keys n.0)) c.self.view_is
-    (there_waiting c.self.inside.packed.items c.self.inside.rows.items c.self.inside.read c.self.inside.last c.self.invariant.0 n.0
-    (subst (λ rows. IsTrue (map.contains_key (live_of rows) n.0)) c.deref-in-None.ensures.value there)))
+pub returns-in_err-file-clause-none : goal.returns-in_err-file-clause-none
+returns-in_err-file-clause-none g c = if_none c.from_residual.result (λ q above. nowhere (keys_of c.args.slab.now) q (λ k at.
+    let packed = c.self.inside.packed.items in
+    let unread = drop c.self.inside.read c.self.inside.rows.items in
+    let x = subst (λ a. HasRow a.rows q k) (sym c.self.view_is) (c.requires.listed q k at) in
+    let left = rest c.deref-2.result.now c.self.inside.read ∙ ap (drop c.self.inside.read) c.deref-2.ensures.value in
+    elim (in_either packed unread q k x) [
+      | inl a ↦ c.in_default.ensures.none q k above at (subst (λ xs. HasRow xs q k) (sym c.deref.ensures.value) a)
+      | inr a ↦ c.in_err-file.ensures.none q k above at (subst (λ xs. HasRow xs q k) (sym left) a)
+    ]))
 
-pub returns-in-None-clause-least : goal.returns-in-None-clause-least
-returns-in-None-clause-least c = IfSome_then c.next_in-in-None.result c.next_in-in-None.ensures.least (λ n least q above before.
-    neither c q (c.in-None.ensures.none q above) (least q above before))
-
-pub returns-in-None-clause-none : goal.returns-in-None-clause-none
-returns-in-None-clause-none c = if_none c.next_in-in-None.result c.next_in-in-None.ensures.none (λ none q above.
-    neither c q (c.in-None.ensures.none q above) (none q above))
+pub returns-clause-least : goal.returns-clause-least
+returns-clause-least g c = λ q above before. nowhere (keys_of c.args.slab.now) q (λ k at.
+    let packed = c.self.inside.packed.items in
+    let unread = drop c.self.inside.read c.self.inside.rows.items in
+    let x = subst (λ a. HasRow a.rows q k) (sym c.self.view_is) (c.requires.listed q k at) in
+    let left = rest c.deref-2.result.now c.self.inside.read ∙ ap (drop c.self.inside.read) c.deref-2.ensures.value in
+    elim (in_either packed unread q k x) [
+      | inl a ↦ c.in_default.ensures.none q k above at (subst (λ xs. HasRow xs q k) (sym c.deref.ensures.value) a)
+      | inr a ↦ c.in_ok-file.ensures.least q k above before at (subst (λ xs. HasRow xs q k) (sym left) a)
+    ])
