@@ -39,7 +39,6 @@ const RESERVED_AT_ONCE: usize = 64;
 
 /// The files, each under a number that is never used again, with its count, its mark in a pass, and
 /// its name, if it has one. A `FileRef` has a hint of the key of its row.
-#[derive(Drop)]
 pub struct Files {
     pub(crate) alloc: Global,
     pub(crate) rows: TrackedTable,
@@ -58,6 +57,24 @@ pub struct Files {
     pub(crate) embryos: u64,
     /// At least the number of files below the bound that are not marked.
     pub(crate) white: usize,
+}
+
+/// It is written out, and not derived: so an owner's proof has one call where it drops the files.
+impl Drop for Files {
+    fn drop(self) {
+        let Files {
+            alloc: _,
+            rows: _,
+            unreferenced: _,
+            grey: _,
+            epoch: _,
+            bound: _,
+            next: _,
+            names: _,
+            embryos: _,
+            white: _,
+        } = self;
+    }
 }
 
 impl Model for Files {

@@ -38,7 +38,6 @@ pub enum CallError {
 ///
 /// The log is legal: each entry is of one of the seats, and the events with their replies lead from
 /// the machine at the last [`Book::take_log`], or the fresh one, to the one that the engine shows.
-#[derive(Drop)]
 pub struct Book {
     alloc: Global,
     seats: u32,
@@ -48,6 +47,20 @@ pub struct Book {
     log: Vec<Entry>,
     /// The box for the next entry that needs one.
     spare: Option<Pair>,
+}
+
+/// It is written out, and not derived: so an owner's proof has one call where it drops a book.
+impl Drop for Book {
+    fn drop(self) {
+        let Book {
+            alloc: _,
+            seats: _,
+            start: _,
+            engine: _,
+            log: _,
+            spare: _,
+        } = self;
+    }
 }
 
 impl Model for Book {

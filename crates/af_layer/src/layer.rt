@@ -25,9 +25,15 @@ use thiserror::Error;
 ///
 /// Its parameter says where its log begins. With `Fresh` it has all that was ever done; with
 /// `AtCheckpoint` it can be taken ([`Layer::checkpoint`]).
-#[derive(Drop)]
 pub struct Layer<O: Origin = Fresh> {
     book: Mutex<BookFrom<O>>,
+}
+
+/// It is written out, and not derived: so an owner's proof has one call where it drops a layer.
+impl<O: Origin> Drop for Layer<O> {
+    fn drop(self) {
+        let Layer { book: _ } = self;
+    }
 }
 
 /// A layer that is locked until this is dropped: no other thread calls between its calls.

@@ -18,12 +18,22 @@ use std::marker::Model;
 use std::sync::{Mutex, Wait};
 
 /// A caller, with all its events and their replies.
-#[derive(Drop)]
 pub struct Seat {
     number: u32,
     list: Vec<EventReply>,
     /// The box for the next pair that needs one.
     spare: Option<Pair>,
+}
+
+/// It is written out, and not derived: so an owner's proof has one call where it drops a seat.
+impl Drop for Seat {
+    fn drop(self) {
+        let Seat {
+            number: _,
+            list: _,
+            spare: _,
+        } = self;
+    }
 }
 
 impl Model for Seat {

@@ -23,12 +23,23 @@ use std::marker::Model;
 
 /// An engine, and a value behind each plain file. Dropping it drops the values that were not
 /// handed back.
-#[derive(Drop)]
 pub struct Owned<T> {
     pub(crate) engine: Engine,
     values: OrderedSlab<T>,
     /// The position where the search for a freed file with a value continues. It is a hint.
     next: usize,
+}
+
+/// It is written out, and not derived: so an owner's proof has one call where it drops the engine
+/// and the values.
+impl<T: Drop> Drop for Owned<T> {
+    fn drop(self) {
+        let Owned {
+            engine: _,
+            values: _,
+            next: _,
+        } = self;
+    }
 }
 
 impl<T> Model for Owned<T> {
