@@ -179,7 +179,9 @@ impl Msg {
             user,
             attached,
         } = self;
-        *taken = Taken::new(bytes, attached, user, len > max);
+        let nothing = mem::replace(taken, Taken::new(bytes, attached, user, len > max));
+        // To drop an empty result would test each of its lists.
+        mem::forget(nothing);
         taken.keep_bytes(begin as usize, len.min(max));
     }
 }

@@ -23,7 +23,7 @@ use af_desc::Socket;
 use af_queue::{Attached, Msg, Taken};
 use af_table::Process;
 use smallvec::SmallVec;
-use std::alloc::{AllocError, Global};
+use std::alloc::AllocError;
 
 /// The result of a receive or a peek (recvmsg(2)).
 #[derive(Debug, PartialEq, Eq, Drop)]
@@ -119,7 +119,8 @@ impl Engine {
             Refuses self.now pid (Step.Send on bytes.now attach.now) e self.now) }
     {
         let (process, file, socket) = socket_on(&self.store, pid, on)?;
-        check_parts(process, bytes, attach)?;
+        let mut attached = SmallVec::new(self.alloc);
+        check_parts(process, bytes, attach, &mut attached)?;
         let peer = peer_of(&socket)?;
         let (user, limit, privileged) = process.who();
         let holdings = self.store.holdings();
@@ -128,7 +129,10 @@ impl Engine {
         if holdings.socket(&peer).unwrap().queue().len() >= MAX_MESSAGES {
             return Err(Errno::EAGAIN);
         }
-        let attached = files_at(self.alloc, process, attach)?;
+        // The list is short where memory for it was refused.
+        if attached.len() < attach.len() {
+            return Err(Errno::ENOMEM);
+        }
         Ok(Envelope {
             peer,
             attached,
@@ -260,10 +264,20 @@ impl Engine {
     }
 }
 
-/// Returns whether a process may send these bytes with these descriptors, or why not.
-fn check_parts(process: &Process, bytes: &[u8], attach: &[Fd]) -> Result<(), Errno>
+/// Returns whether a process may send these bytes with these descriptors, or why not. Appends the
+/// files of the descriptors to an empty list, or none if memory is refused.
+#[inline(always)]
+fn check_parts(
+    process: &Process,
+    bytes: &[u8],
+    attach: &[Fd],
+    files: &mut Attached,
+) -> Result<(), Errno>
+    requires empty { files.old.items ≡ [] }
     ensures ok { OnOk result
         (first_fit (on_parts (map.get process.now.process.table) bytes.now attach.now) ≡ None) }
+    ensures files { OnOk result (length attach.now ≤ length files.new.items
+        → files.new.items ≡ filter_map (map.get process.now.process.table) attach.now) }
     ensures err { IfErr result (λ e.
         first_fit (on_parts (map.get process.now.process.table) bytes.now attach.now) ≡ Some e) }
 {
@@ -273,10 +287,27 @@ fn check_parts(process: &Process, bytes: &[u8], attach: &[Fd]) -> Result<(), Err
     if bytes.len() > MAX_BYTES {
         return Err(Errno::EMSGSIZE);
     }
+    let has_room = reserve_files(files, attach.len()).is_ok();
     for fd in attach {
-        if process.lookup(*fd).is_none() {
+        let Some(file) = process.lookup(*fd) else {
             return Err(Errno::EBADF);
+        };
+        if has_room {
+            files.push_reserved(file);
         }
+    }
+    Ok(())
+}
+
+/// Reserves room for this many files in an empty list. One file needs no memory.
+#[inline(always)]
+fn reserve_files(files: &mut Attached, count: usize) -> Result<(), AllocError>
+    requires empty { files.old.items ≡ [] }
+    ensures empty { files.new.items ≡ [] }
+    ensures room { OnOk result (count ≤ files.new.capacity) }
+{
+    if count > files.capacity() {
+        *files = SmallVec::from_vec(Vec::with_capacity(*files.allocator(), count)?);
     }
     Ok(())
 }
@@ -310,28 +341,6 @@ pub(crate) fn check_receive(socket: &Socket, max_bytes: u32) -> Result<(), Errno
         State::Connected(_) if socket.queue().len() == 0 => Err(Errno::EAGAIN),
         State::Connected(_) | State::HungUp => Ok(()),
     }
-}
-
-/// Returns the files of these descriptors of the process, without those that are free.
-#[inline(always)]
-fn files_at(alloc: Global, process: &Process, fds: &[Fd]) -> Result<Attached, AllocError>
-    ensures value { IfOk result (λ files.
-        files.items ≡ filter_map (map.get process.now.process.table) fds.now) }
-    ensures bound { IfOk result (λ files. length files.items ≤ length fds.now) }
-{
-    // Most messages bring one file at most, which needs no memory.
-    let mut files = if fds.len() <= 1 {
-        SmallVec::new(alloc)
-    } else {
-        SmallVec::from_vec(Vec::with_capacity(alloc, fds.len())?)
-    };
-    for fd in fds {
-        let Some(file) = process.lookup(*fd) else {
-            continue;
-        };
-        files.push_reserved(file);
-    }
-    Ok(files)
 }
 
 /// Returns the answer to a receive or a peek, whose first files were installed at these

@@ -253,6 +253,13 @@ impl Process {
         ensures value { OnOk result (fds.new ≡ lowest_free count self.now.process) }
         ensures none { length (lowest_free count self.now.process) ≡ 0 → IsOk result }
     {
+        // Most messages bring one file.
+        if count == 1 {
+            if let Some(fd) = self.lowest() {
+                fds.push(fd)?;
+            }
+            return Ok(());
+        }
         let mut from = 0;
         for _ in 0..count {
             let Some(fd) = self.next_free(from) else {

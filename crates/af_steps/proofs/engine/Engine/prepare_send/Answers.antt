@@ -1,4 +1,4 @@
-use Rattle.std.proofs.Common.{ℕ, ◌≡◌, ◌<◌, ◌∷◌, [], true, false, length, refl, sym, ap, ◌∙◌, subst, ◌++◌}
+use Rattle.std.proofs.Common.{ℕ, ◌≡◌, ◌<◌, ◌≤◌, ◌∷◌, [], true, false, length, refl, sym, ap, ◌∙◌, subst, ◌++◌, arith}
 use Rattle.std.specs.Prelude.{None, Option, Some, Err, is_none, nat_le}
 use Rattle.std.proofs.lemmas.Bool.{le-leb, lt-leb}
 use Rattle.af_base.specs.declared.errno.Errno.TheVariants.{EAGAIN, ENOMEM}
@@ -12,9 +12,9 @@ use Rattle.af_base.specs.World.{Message, Socket, World}
 use Rattle.af_steps.specs.Posted.{HasRoom, message_in}
 use Rattle.af_steps.specs.Found.{HasSocket}
 use Rattle.af_steps.proofs.LookupRows.{is_process, queue-is, no-socket}
-use Rattle.af_steps.proofs.Outcomes.{answered-is, refuses, starves, turned-down}
+use Rattle.af_steps.proofs.Outcomes.{refuses, starves, turned-down}
 use Rattle.af_steps.proofs.Sends.{after-charge, charges, refused-charge, refused-parts, refused-peer, sent, sent-flying, sent-tabled, sent-within}
-use Rattle.af_steps.proofs.engine.Engine.prepare_send.Goals.{After-files_at, After-may_send, In_ok-process}
+use Rattle.af_steps.proofs.engine.Engine.prepare_send.Goals.{After-len-2, After-may_send, In_ok-process}
 use Rattle.af_steps.proofs.engine.Engine.prepare_send.Goals as goal
 
 pub returns-in_err-process-clause-refused : goal.returns-in_err-process-clause-refused
@@ -43,11 +43,11 @@ heard : (w v : World) (p : ℕ) (o : Option Socket) (y : Socket) → v ≡ w →
 heard w v p o y same is some = sym (is ∙ ap (λ u. socket_at u p) same) ∙ some
 
 -- The queue of the peer has room.
-low : (c : After-files_at) → length c.unwrap.result.queue < MAX_MESSAGES
+low : (c : After-len-2) → length c.unwrap.result.queue < MAX_MESSAGES
 low c = subst (λ n. n < MAX_MESSAGES) (c.len.ensures.value ∙ ap length c.queue.ensures) c.if-len-ge-MAX_MESSAGES.false
 
 -- Nothing refuses it.
-fits : (c : After-files_at) (found : HasSocket c.self.inside.store.world c.args.pid c.in_ok-process.process.now.process c.args.on c.in_ok-process.file c.in_ok-process.socket)
+fits : (c : After-len-2) (found : HasSocket c.self.inside.store.world c.args.pid c.in_ok-process.process.now.process c.args.on c.in_ok-process.file c.in_ok-process.socket)
     → first_fit (charges found c.args.bytes.now c.args.attach.now) ≡ None → refusal c.self.inside.store.world c.args.pid (step.Send c.args.on c.args.bytes.now c.args.attach.now) ≡ None
 fits c found paid =
     let y = c.unwrap.result in
@@ -83,17 +83,17 @@ returns-then-len-ge-MAX_MESSAGES-clause-refused c =
     let fits = after-charge found c.args.bytes.now c.args.attach.now c.in_ok-check_parts.ensures.ok c.in_ok-peer.ensures.ok (charge at.After-may_send found ∙ c.in_ok-may_send.ensures.ok) c.in_ok-peer.peer y c.in_ok-peer.ensures.peer (heard _ _ _ _ _ c.holdings-holdings.ensures.world c.socket.ensures c.unwrap.ensures) ∙ ap (λ b. first_fit ((b, EAGAIN) ∷ [])) full in
     refuses c.self.view_is c.args.pid (step.Send c.args.on c.args.bytes.now c.args.attach.now) {X = ℕ} c.args.self.now (Err EAGAIN) refl EAGAIN refl fits
 
-pub returns-in_err-attached-clause-refused : goal.returns-in_err-attached-clause-refused
-returns-in_err-attached-clause-refused c =
-    let at = goal.at.returns-in_err-attached-clause-refused c in
+pub returns-then-len-attach-clause-refused : goal.returns-then-len-attach-clause-refused
+returns-then-len-attach-clause-refused c =
+    let at = goal.at.returns-then-len-attach-clause-refused c in
     let found = has at.In_ok-process in
-    starves c.self.view_is c.args.pid (step.Send c.args.on c.args.bytes.now c.args.attach.now) c.args.self.now c.from_residual-in_err-attached.result refl (answered-is c.from_residual-in_err-attached.result ENOMEM c.from_residual-in_err-attached.ensures.1) (fits at.After-files_at found (charge at.After-may_send found ∙ c.in_ok-may_send.ensures.ok)) refl
+    starves c.self.view_is c.args.pid (step.Send c.args.on c.args.bytes.now c.args.attach.now) {X = ℕ} c.args.self.now (Err ENOMEM) refl refl (fits at.After-len-2 found (charge at.After-may_send found ∙ c.in_ok-may_send.ensures.ok)) refl
 
 pub returns-clause-fits : goal.returns-clause-fits
 returns-clause-fits c =
     let at = goal.at.returns-clause-fits c in
     let found = has at.In_ok-process in
-    subst (λ (m : Machine). refusal m.world c.args.pid (step.Send c.args.on c.args.bytes.now c.args.attach.now) ≡ None) c.self.view_is (fits at.After-files_at found (charge at.After-may_send found ∙ c.in_ok-may_send.ensures.ok))
+    subst (λ (m : Machine). refusal m.world c.args.pid (step.Send c.args.on c.args.bytes.now c.args.attach.now) ≡ None) c.self.view_is (fits at.After-len-2 found (charge at.After-may_send found ∙ c.in_ok-may_send.ensures.ok))
 
 pub returns-clause-room : goal.returns-clause-room
 returns-clause-room c =
@@ -101,14 +101,15 @@ returns-clause-room c =
     let found = has at.In_ok-process in
     let w = c.self.inside.store.world in
     let y = c.unwrap.result in
-    let m : Message = message_in (record { peer = c.in_ok-peer.peer; attached = c.in_ok-attached.attached; user = c.who-user.result.0 }) c.args.bytes.now in
-    let is : m ≡ sent found c.args.bytes.now c.args.attach.now = λ i. record { bytes = c.args.bytes.now; attached = c.in_ok-attached.ensures.value i; user = c.who-user.ensures.user i } in
+    let m : Message = message_in (record { peer = c.in_ok-peer.peer; attached = c.check_parts.new.files; user = c.who-user.result.0 }) c.args.bytes.now in
+    let all : length c.args.attach.now ≤ length c.check_parts.new.files.items = (let many = c.len-2.ensures.value in let few = c.if-len-attach.false in omega (arith, many, few)) in
+    let is : m ≡ sent found c.args.bytes.now c.args.attach.now = λ i. record { bytes = c.args.bytes.now; attached = c.in_ok-check_parts.ensures.files all i; user = c.who-user.ensures.user i } in
     let there : socket_at w c.in_ok-peer.peer ≡ Some y = heard _ _ _ _ _ c.holdings-holdings.ensures.world c.socket.ensures c.unwrap.ensures in
     let process = found.number.process in
     subst (λ (x : Machine). HasRoom x.world c.in_ok-peer.peer m) c.self.view_is
     (record {
       socket = ap is_none there;
-      queue = subst (λ q. length q < MAX_MESSAGES) (sym (queue-is w c.in_ok-peer.peer y there)) (low at.After-files_at);
+      queue = subst (λ q. length q < MAX_MESSAGES) (sym (queue-is w c.in_ok-peer.peer y there)) (low at.After-len-2);
       tabled = sent-tabled found c.args.bytes.now c.args.attach.now m is;
       user = (c.args.pid, process.there ∙ ap Some (sym (is_process process)), c.who-user.ensures.user ∙ ap (λ x. x.user) (sym (is_process process)));
       within = sent-within found c.args.bytes.now c.args.attach.now m is c.in_ok-check_parts.ensures.ok;
