@@ -116,6 +116,10 @@ item_read : (word fds : List ℕ) → IsItem word fds → item_of word ≡ Some 
 item_read word fds (inl (n, (number, e))) = rw (position_none word (number_digits word n number), number_read word n number, e) refl
 item_read word fds (inr (front, back, (n, k, w, m, l, some, few, e))) = rw (w, e) (starred_read front back n k m l some few)
 
+-- A number alone is one descriptor.
+pub number_item : (word : List ℕ) (n : ℕ) → number_of word ≡ Some n → item_of word ≡ Some (n ∷ [])
+number_item word n read = item_read word (n ∷ []) (inl (n, (number_said word n read, refl)))
+
 -- Items of the table are read so.
 items_read : (words : List (List ℕ)) (fds : List ℕ) → AreItems words fds → items_of words ≡ Some fds
 items_read [] fds e = rw e refl

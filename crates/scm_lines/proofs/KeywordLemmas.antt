@@ -1,14 +1,16 @@
 -- The keywords of the tables.
-use Rattle.std.proofs.Common.{◌≡◌, ◌≢◌, ℕ, ◌≤◌, ◌<◌, ◌==◌, ◌||◌, List, true, false, length, get_or, nat_lt, Some, None, refl, sym, arith}
+use Rattle.std.proofs.Common.{◌≡◌, ◌≢◌, ℕ, ◌≤◌, ◌<◌, ◌==◌, ◌||◌, List, true, false, not, length, get_or, nat_lt, Some, None, refl, sym, arith}
 use Rattle.std.proofs.lemmas.Grind.{common_steps}
+use Rattle.std.proofs.lemmas.Bool.Decides.{nat_tests}
+use Rattle.std.specs.List.{list_any}
 use Rattle.scm_lines.specs.Words.{all_printable, begins_comment}
 use Rattle.scm_lines.specs.Numbers.{number_of}
-use Rattle.scm_lines.specs.Forms.{keywords, line_row, named, step_row, verbs}
+use Rattle.scm_lines.specs.Forms.{FormRow, keywords, line_row, named, step_row, verbs}
 use Rattle.scm_lines.specs.declared.keywords.Keyword.{Keyword}
 use Rattle.scm_lines.specs.declared.keywords.Keyword.TheVariants as keyword
 use Rattle.scm_lines.specs.declared.keywords.Verb.{Verb}
 use Rattle.scm_lines.specs.declared.keywords.Verb.TheVariants as verb
-use Rattle.scm_lines.proofs.FormLemmas.{no_key}
+use Rattle.scm_lines.proofs.FormLemmas.{keys_pass, no_key}
 
 -- Each is found by its keyword: the second clause covers all others.
 pub verb_found : (v : Verb) → named step_row verbs (step_row v).0 ≡ Some v
@@ -40,10 +42,11 @@ pub keyword_plain : (k : Keyword) → begins_comment (line_row k).0 ≡ false
 keyword_plain keyword.Spawn = refl
 keyword_plain other = refl
 
--- Verbs of seven begin with c.
-pub no_seven : (word : List ℕ) → 7 ≤ length word → length word < 8 → get_or word 0 0 ≢ 99 → None ≡ named step_row verbs word
-no_seven word long short c = sym (no_key (λ text. nat_lt (length text) 7 || nat_lt 7 (length text) || (get_or text 0 0 == 99)) step_row verbs word refl (grind (arith, common_steps)))
+-- Where all words of this length begin with one of these bytes, no other word of this length is
+-- one.
+pub no_other : {K A : Type 0} (row : K → FormRow A) (keys : List K) (n : ℕ) (firsts : List ℕ) → keys_pass (λ text. not (length text == n) || list_any (λ b. b == get_or text 0 0) firsts) row keys ≡ true → (word : List ℕ) → length word ≡ n → list_any (λ b. b == get_or word 0 0) firsts ≡ false → None ≡ named row keys word
+no_other row keys n firsts pass word long other = sym (no_key (λ text. not (length text == n) || list_any (λ b. b == get_or text 0 0) firsts) row keys word pass (rw (long, other) (grind (arith, nat_tests))))
 
--- No verb has eight or more.
-pub no_eight : (word : List ℕ) → 8 ≤ length word → None ≡ named step_row verbs word
-no_eight word long = sym (no_key (λ text. nat_lt (length text) 8) step_row verbs word refl (grind (arith, common_steps)))
+-- Where no word has eight or more, a longer word is none.
+pub no_eight : {K A : Type 0} (row : K → FormRow A) (keys : List K) → keys_pass (λ text. nat_lt (length text) 8) row keys ≡ true → (word : List ℕ) → 8 ≤ length word → None ≡ named row keys word
+no_eight row keys pass word long = sym (no_key (λ text. nat_lt (length text) 8) row keys word pass (grind (arith, common_steps)))

@@ -1,10 +1,10 @@
 -- A numeral is the decimal digits of its number.
-use Rattle.std.proofs.Common.{◌≡◌, ℕ, ◌^◌, ◌<◌, ◌≤◌, ◌==◌, ◌&&◌, List, [], ◌∷◌, true, false, length, Some, refl, sym, ap, ◌∙◌, arith, rules, subst, get_or, nat_lt, suc, zero}
+use Rattle.std.proofs.Common.{◌≡◌, ℕ, ◌+◌, ◌*◌, ◌-◌, ◌^◌, ◌<◌, ◌≤◌, ◌==◌, ◌&&◌, List, [], ◌∷◌, ◌++◌, true, false, length, Some, refl, sym, ap, ◌∙◌, arith, rules, subst, get_or, nat_lt, suc, zero}
 use Rattle.std.specs.Fmt.{decimal}
 use Rattle.std.proofs.lemmas.Fmt.{decimal_digit, decimal_nonempty, digits_decimal, digits_value-decimal, first_decimal, length-decimal-le, decimal-digits_value}
 use Rattle.std.proofs.lemmas.Str.Parse.{IsNumeralModel, numerals_by_fold}
 use Rattle.std.proofs.lemmas.Grind.{common_steps}
-use Rattle.scm_lines.specs.Numbers.{all_digits, is_numeral, leads_with_zero, number_of, value_on}
+use Rattle.scm_lines.specs.Numbers.{all_digits, is_digit, is_numeral, leads_with_zero, number_of, value_on}
 use Rattle.scm_lines.specs.Spelling.{IsNumber}
 use Rattle.scm_lines.proofs.Choices.{guarded, split_and}
 
@@ -73,3 +73,17 @@ number_read word n (small, text) =
 -- A number has nothing but digits.
 pub number_digits : (word : List ℕ) (n : ℕ) → IsNumber word n → all_digits word ≡ true
 number_digits word n (small, e) = subst (λ (w : List ℕ). all_digits w ≡ true) (sym e) (digits_decimal own n (omega arith))
+
+-- ---- a number that is read in one pass
+
+-- A digit more makes ten times the value, and the digit.
+pub value_more : (n : ℕ) (front : List ℕ) (d : ℕ) → value_on n (front ++ d ∷ []) ≡ value_on n front * 10 + (d - 48)
+value_more n [] d = refl
+value_more n (b ∷ front) d = value_more (n * 10 + (b - 48)) front d
+
+-- Digits with a digit more are digits.
+pub digits_more : (front : List ℕ) (d : ℕ) → all_digits front ≡ true → is_digit d ≡ true → all_digits (front ++ d ∷ []) ≡ true
+digits_more [] d digits one = rw one refl
+digits_more (b ∷ front) d digits one =
+    let (first, others) = split_and (is_digit b) (all_digits front) digits in
+    rw first (digits_more front d others one)

@@ -33,9 +33,11 @@ pub fn item(word: &[u8]) -> Option<(Fd, usize)>
     ensures value { option_map (λ found. replicate found.1 found.0) result ≡ item_of word.now }
     ensures few { IfSome result (λ found. found.1 ≤ MAX_ATTACHED) }
 {
-    let Some(at) = star_at(word) else {
-        return Some((Fd(number(word)?), 1));
-    };
+    // Most items are a number alone.
+    if let Some(fd) = number(word) {
+        return Some((Fd(fd), 1));
+    }
+    let at = star_at(word)?;
     let (front, _) = word.split_at(at);
     let (_, back) = word.split_at(at + 1);
     let fd = number(front)?;

@@ -3,5 +3,4 @@ pub mod LinesLemmas
 pub mod RunLemmas
 pub mod ShortReplies
 pub mod PlainLemmas
-pub mod RoomLemmas
 pub mod StepLemmas

@@ -72,9 +72,29 @@ pub fn answer(alloc: Global, engine: &mut Engine, says: Line, text: &mut Vec<u8>
 }
 
 /// Reads a line of any form, does what it says, and appends its text. It is a function of its own,
-/// so that a process's step zeroes no local of other lines.
+/// so that an event's line zeroes no local of other lines.
 #[inline(never)]
 fn do_any(
+    alloc: Global,
+    engine: &mut Engine,
+    version: &mut Version,
+    bytes: &[u8],
+    text: &mut Vec<u8>,
+) -> Result<u64, LineFault>
+    requires { vec_len text.old + MAX_REPLY_LINE ≤ vec_capacity text.old }
+    ensures read { LineRead (point_of engine.old version.old) bytes.now
+        text.old.items result text.new.items (point_of engine.new version.new) }
+    ensures few { IfOk result (λ events. events ≤ 1) }
+{
+    let says = read_in(alloc, *version, bytes)?;
+    *version = version.after(&says);
+    Ok(answer(alloc, engine, says, text))
+}
+
+/// Reads a line that begins with no process, does what it says, and appends its text. It is a
+/// function of its own, so that a process's step zeroes no local of other events.
+#[inline(never)]
+fn do_keyword(
     alloc: Global,
     engine: &mut Engine,
     version: &mut Version,
@@ -90,9 +110,7 @@ fn do_any(
         *version = version.after_event();
         return Ok(1);
     }
-    let says = read_in(alloc, *version, bytes)?;
-    *version = version.after(&says);
-    Ok(answer(alloc, engine, says, text))
+    do_any(alloc, engine, version, bytes, text)
 }
 
 /// Reads a line, does what it says, and appends its text. Returns how many events it did.
@@ -110,7 +128,7 @@ fn do_bytes(
     ensures few { IfOk result (λ events. events ≤ 1) }
 {
     let Some((pid, verb, rest)) = verb_in(*version, bytes) else {
-        return do_any(alloc, engine, version, bytes, text);
+        return do_keyword(alloc, engine, version, bytes, text);
     };
     match do_step(alloc, engine, pid, verb, rest, text) {
         Ok(()) => {

@@ -8,7 +8,7 @@ use std::io::Write;
 use thiserror::Error;
 
 /// A write failed, or took no byte of some.
-#[derive(Clone, Copy, Debug, PartialEq, Eq, Error)]
+#[derive(Clone, Copy, Debug, Error)]
 #[error("writing failed")]
 pub struct WriteFailed;
 

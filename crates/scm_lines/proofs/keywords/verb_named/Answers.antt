@@ -1,10 +1,16 @@
--- Words too long for a verb, and of seven letters: all other tactics take long to give up at these.
-use Rattle.std.proofs.Common.{arith}
-use Rattle.scm_lines.proofs.KeywordLemmas.{no_eight, no_seven}
+-- Words of four and of seven letters, and words too long for a verb: all other tactics take long to
+-- give up at these.
+use Rattle.std.proofs.Common.{[], ◌∷◌, arith, refl}
+use Rattle.std.proofs.lemmas.Bool.Decides.{nat_tests}
+use Rattle.scm_lines.specs.Forms.{step_row, verbs}
+use Rattle.scm_lines.proofs.KeywordLemmas.{no_eight, no_other}
 use Rattle.scm_lines.proofs.keywords.verb_named.Goals as goal
 
+pub returns-in_default-31 : goal.returns-in_default-31
+returns-in_default-31 c = no_other step_row verbs 4 (115 ∷ 114 ∷ 111 ∷ 100 ∷ 112 ∷ 102 ∷ 101 ∷ 98 ∷ []) refl c.args.word.now (omega arith) (grind (arith, nat_tests))
+
 pub returns-in_default-63 : goal.returns-in_default-63
-returns-in_default-63 c = grind (arith, no_seven)
+returns-in_default-63 c = no_other step_row verbs 7 (99 ∷ []) refl c.args.word.now (omega arith) (grind (arith, nat_tests))
 
 pub returns-in_default-64 : goal.returns-in_default-64
-returns-in_default-64 c = no_eight c.args.word.now c.in_default.len_at_least
+returns-in_default-64 c = no_eight step_row verbs refl c.args.word.now c.in_default.len_at_least
