@@ -70,6 +70,7 @@ fn events_of(alloc: Global, lines: &mut Lines<'_>) -> io::Result<Vec<Event>> {
 }
 
 /// Does the event, and says whether it was not refused.
+#[inline(always)]
 fn is_done(engine: &mut Engine, event: &Event) -> bool {
     !matches!(engine.step(event), Reply::Refused(_))
 }

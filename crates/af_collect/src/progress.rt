@@ -1,7 +1,7 @@
 //! How far a pass of the collector is.
 
 /// The next work of a pass.
-#[derive(Clone, Copy, Debug)]
+#[derive(Clone, Copy)]
 pub enum Stage {
     /// No pass runs.
     Resting,
@@ -13,7 +13,7 @@ pub enum Stage {
 
 /// The progress of a pass. It walks over the files by rising number, up to those that are newer
 /// than its begin: once to visit them, and once to sweep them.
-#[derive(Clone, Copy, Debug)]
+#[derive(Clone, Copy)]
 pub struct PassProgress {
     pub stage: Stage,
     /// Files below this number were visited.

@@ -1,5 +1,6 @@
 use Rattle.std.proofs.Common.{map, subst}
 use Rattle.scm_command.specs.Task.{Names}
+use Rattle.scm_command.specs.declared.task.Task.TheVariants as task
 use Rattle.scm_command.proofs.TaskWords.{race_not_play, run_not_play, run_not_race}
 use Rattle.scm_command.proofs.program.program.Goals as goal
 
@@ -37,3 +38,28 @@ pub returns-in-Ok-Play-Some-clause-race : goal.returns-in-Ok-Play-Some-clause-ra
 returns-in-Ok-Play-Some-clause-race g c = λ fit workers steps seed budget checkpoint race.
     let words = map g.S.AsStr.text c.args.words.now in
     absurd (race_not_play words workers steps seed budget checkpoint c.in-Ok-Play-Some.field-0-0 race (subst (Names words) c.in-Ok-Play-Some.field-0-is c.in-Ok-Play-Some.ensures.ok))
+
+pub returns-in-Ok-clause-refused : goal.returns-in-Ok-clause-refused
+returns-in-Ok-clause-refused g c = λ none.
+    let words = map g.S.AsStr.text c.args.words.now in
+    absurd (none task.Run (subst (Names words) c.in-Ok-Run.field-0-is c.in-Ok-Run.ensures.ok))
+
+pub returns-in-Err-run_script-clause-refused : goal.returns-in-Err-run_script-clause-refused
+returns-in-Err-run_script-clause-refused g c = λ none.
+    let words = map g.S.AsStr.text c.args.words.now in
+    absurd (none task.Run (subst (Names words) c.in-Ok-Run.field-0-is c.in-Ok-Run.ensures.ok))
+
+pub returns-in-Ok-Race-clause-refused : goal.returns-in-Ok-Race-clause-refused
+returns-in-Ok-Race-clause-refused g c = λ none.
+    let words = map g.S.AsStr.text c.args.words.now in
+    absurd (none (task.Race c.in-Ok-Race.workers c.in-Ok-Race.steps c.in-Ok-Race.seed c.in-Ok-Race.budget c.in-Ok-Race.checkpoint) (subst (Names words) c.in-Ok-Race.field-0-is c.in-Ok-Race.ensures.ok))
+
+pub returns-in-Ok-Play-None-clause-refused : goal.returns-in-Ok-Play-None-clause-refused
+returns-in-Ok-Play-None-clause-refused g c = λ none.
+    let words = map g.S.AsStr.text c.args.words.now in
+    absurd (none (task.Play c.in-Ok-Play-None.field-0-0) (subst (Names words) c.in-Ok-Play-None.field-0-is c.in-Ok-Play-None.ensures.ok))
+
+pub returns-in-Ok-Play-Some-clause-refused : goal.returns-in-Ok-Play-Some-clause-refused
+returns-in-Ok-Play-Some-clause-refused g c = λ none.
+    let words = map g.S.AsStr.text c.args.words.now in
+    absurd (none (task.Play c.in-Ok-Play-Some.field-0-0) (subst (Names words) c.in-Ok-Play-Some.field-0-is c.in-Ok-Play-Some.ensures.ok))

@@ -1,10 +1,23 @@
 use Rattle.std.proofs.Common.{rules, ◌≡◌, ◌+◌, ap, length, map, subst, sym, vec_len, ◌∙◌}
 use Rattle.std.proofs.lemmas.List.{length-map}
 use Rattle.std.proofs.lemmas.Result.{IfOk-weaker}
-use Rattle.scm_race.specs.Parts.{IsOfPart, IsPart}
+use Rattle.scm_race.specs.Parts.{AreFresh, IsOfPart, IsPart}
 use Rattle.scm_race.specs.Race.{worker_steps}
 use Rattle.scm_race.proofs.Parts.{next-part}
 use Rattle.scm_race.proofs.long.LongRace.next_part.Goals as goal
+
+-- There are as many scripts as workers.
+pub race_part-requires-clause-fresh : goal.race_part-requires-clause-fresh
+race_part-requires-clause-fresh g c =
+    let same : vec_len c.in_ok-scripts.scripts ≡ length c.in_ok-scripts.scripts.items = search rules in
+    let many = same ∙ sym (length-map c.in_ok-scripts.scripts.items (λ script. script.items)) ∙ c.in_ok-scripts.ensures.made_count ∙ c.requires.sources in
+    λ κs outlives. subst (λ n. AreFresh (n + 2) c.args.field.seats.items) (sym many) c.requires.fresh
+
+pub returns-clause-fresh : goal.returns-clause-fresh
+returns-clause-fresh g c =
+    let same : vec_len c.in_ok-scripts.scripts ≡ length c.in_ok-scripts.scripts.items = search rules in
+    let many = same ∙ sym (length-map c.in_ok-scripts.scripts.items (λ script. script.items)) ∙ c.in_ok-scripts.ensures.made_count ∙ c.requires.sources in
+    IfOk-weaker c.race_part.result _ _ (λ raced fresh. subst (λ n. AreFresh (n + 2) raced.0.seats.items) many fresh) c.race_part.ensures.fresh
 
 pub returns-clause-more : goal.returns-clause-more
 returns-clause-more g c =
