@@ -36,9 +36,8 @@ values_from m (q ∷ qs) s = option_map_or (map.insert (values_from m qs s) q) (
 unfoldable pub values_of : {V : Type 0} → Map ℕ → Slab (NumberedValue V) → Map V
 values_of m s = values_from m (map.keys m) s
 
--- The key of each number has this number's entry, and there are no other entries, so there are as
--- many values as entries: no two numbers share a key, and a key that is used again is never taken
--- for the old one.
+-- At the key of each number is this number's entry, and there are no other entries. So there are as
+-- many values as entries, and no two numbers share a key.
 pub record AreInPlace {V : Type 0} (m : Map ℕ) (s : Slab (NumberedValue V)) : Type 0 where
   pub kept : (q k : ℕ) → map.get m q ≡ Some k → option_map (λ x. x.file) (slab.get s k) ≡ Some q
   pub found : (k : ℕ) (x : NumberedValue V) → slab.get s k ≡ Some x → map.get m x.file ≡ Some k

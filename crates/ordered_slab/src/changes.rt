@@ -12,8 +12,8 @@ use af_base::limits::MAX_INO;
 use slab::Slab;
 use std::alloc::AllocError;
 
-/// Returns the key of the value under this reference's number. Tries the hint first, and asks the
-/// order if another number is there, or none.
+/// Returns the key of the value under this reference's number, if there is one. Tries the hint
+/// first, and asks the order if another number is there, or none.
 #[inline(always)]
 #[tactic(auto, using(crate::proofs::SlabValues::finds))]
 fn key_of<T>(order: &Order, slab: &Slab<NumberedValue<T>>, file: &FileRef) -> Option<usize>

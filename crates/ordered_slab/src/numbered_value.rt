@@ -9,8 +9,7 @@ use crate::row::OrderRow;
 use af_base::ids::FileRef;
 use slab::Slab;
 
-/// A value with its number. The number is kept with it so that a key which is used again is never
-/// taken for the old one.
+/// A value with its number. The number tells whose value it is: a slab uses keys again.
 #[derive(Drop)]
 pub struct NumberedValue<T> {
     /// Its number, with its key.
@@ -30,7 +29,8 @@ pub fn stands_at<T>(slab: &Slab<NumberedValue<T>>, key: usize, file: &FileRef) -
     }
 }
 
-/// Returns whether the number of this row has a value: whether the entry at its key is its own.
+/// Returns whether the number of this row has a value: whether the entry at the row's key is of
+/// that number.
 #[inline(always)]
 #[tactic(auto, using(crate::proofs::SlabValues::finds))]
 pub fn is_live<T>(slab: &Slab<NumberedValue<T>>, row: &OrderRow) -> bool

@@ -19,7 +19,7 @@ use std::marker::Model;
 use std::mem;
 use std::snapshot::Snapshot;
 
-/// Packing begins if dead rows outnumber live ones by over twice this many.
+/// Packing begins if half of all rows are over this many more than the live ones.
 const LEAST_DEAD: usize = 32;
 
 /// At most this many dead rows are passed over in one step of packing.
@@ -230,8 +230,8 @@ impl Order {
         Some((file, at.saturating_add(self.read)))
     }
 
-    /// Performs some steps of packing, if one is due: dead rows leave, and each step moves at most
-    /// one live row. Takes no memory.
+    /// Performs some steps of packing, if one is due: dead rows leave, and each step copies at most
+    /// one row. Takes no memory.
     #[inline(always)]
     pub fn pack<T>(&mut self, slab: &Slab<NumberedValue<T>>)
         requires place { AreInPlace (keys_of slab.now) slab.now }
@@ -290,7 +290,7 @@ impl Order {
         self.read = first_live(slab, &self.rows, self.read, end);
     }
 
-    /// Copies the first row that was not read to the end of `packed`.
+    /// Copies the first row that was not read, if there is one, to the end of `packed`.
     fn step(&mut self)
         ensures rows { self.new.rows ≡ self.old.rows }
         ensures last { self.new.last ≡ self.old.last }
@@ -347,7 +347,7 @@ fn first_live<T>(slab: &Slab<NumberedValue<T>>, rows: &[OrderRow], from: usize, 
 }
 
 /// Returns the least number above this one that has a value, among these rows, and the position
-/// behind it. The position behind this one is a hint.
+/// behind it. The position passed in is a hint.
 #[inline(always)]
 fn next_in<T>(
     slab: &Slab<NumberedValue<T>>,

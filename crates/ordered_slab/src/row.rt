@@ -10,7 +10,7 @@ use std::marker::Model;
 pub struct OrderRow {
     /// The number, with the key as a hint, as a walk returns it.
     file: FileRef,
-    /// The key: that of the reference may be cut.
+    /// The key, whole: the reference has only its low bits.
     key: usize,
 }
 
