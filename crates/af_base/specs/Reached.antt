@@ -21,7 +21,7 @@ abbrev pub is_socket : File → Bool
 is_socket Plain = false
 is_socket (AsSocket s) = true
 
--- So many sockets are garbage (this project's profile: what a pass reports; plain files do not
+-- This many sockets are garbage (this project's profile: what a pass reports; plain files do not
 -- count).
 abbrev pub IsGarbageCount : World → ℕ → Type 0
 IsGarbageCount w n = (test : ℕ → Bool) × ((f : ℕ) → (test f ≡ true) ↔ Garbage w f)

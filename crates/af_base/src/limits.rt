@@ -36,7 +36,7 @@ pub const MAX_INO: u64 = 1_099_511_627_775;
 /// The largest pass number; later passes have it too.
 pub const MAX_PASS: u64 = 1_000_000_000_000;
 
-/// The largest budget of a slice, in files. The smallest is 1.
+/// The largest budget of a slice, in units. The smallest is 1.
 pub const MAX_BUDGET: u32 = 65_536;
 
 /// Entries of a log.

@@ -239,7 +239,7 @@ fn drop_shorter(nodes: &mut Slab<Node>, chain: &mut Chain, count: usize) -> Opti
 }
 
 /// Removes this many bytes of the first message of this chain, which has at least as many, and its
-/// files. Takes them with the user who sent it. Removes an empty message.
+/// files. Takes these files, with the user who sent it. Removes the message if no byte is left.
 fn cut_first(nodes: &mut Slab<Node>, chain: &mut Chain, count: usize, taken: &mut Taken)
     requires chain { IsChain nodes.old chain.old }
     requires some { 0 < count }
@@ -264,7 +264,7 @@ fn cut_first(nodes: &mut Slab<Node>, chain: &mut Chain, count: usize, taken: &mu
 }
 
 /// Removes this many bytes of the first message of this chain, which has more, and its files.
-/// Takes them with the user who sent it. Takes no memory.
+/// Takes these files, with the user who sent it. Takes no memory.
 #[inline(always)]
 fn shorten_first(nodes: &mut Slab<Node>, chain: &Chain, count: usize, taken: &mut Taken)
     requires chain { IsChain nodes.old chain.now }

@@ -43,7 +43,8 @@ impl Hints {
         }
     }
 
-    /// Returns its index, and keeps the map's answer, so that the next look-up need not ask it.
+    /// Returns the index of the process of this pid, if it is known. Asks the map only if another
+    /// process is at the hint, and keeps the map's answer as the hint.
     #[inline(always)]
     pub fn find(&mut self, processes: &IndexMap<Pid, Process>, pid: Pid) -> Option<usize>
         ensures there { IfSome result (λ i. slice_get (keys processes.now) i ≡ Some pid) }
@@ -61,7 +62,7 @@ impl Hints {
     }
 }
 
-/// Asks the map for the process of this pid, apart from the way of most events.
+/// Asks the map for the process of this pid, if it is known. Few look-ups come here.
 #[cold]
 #[inline(never)]
 fn search(processes: &IndexMap<Pid, Process>, pid: Pid) -> Option<&Process>
@@ -70,7 +71,7 @@ fn search(processes: &IndexMap<Pid, Process>, pid: Pid) -> Option<&Process>
     processes.get(&pid)
 }
 
-/// Asks the map for its index.
+/// Asks the map for the index of the process of this pid, if it is known.
 #[cold]
 #[inline(never)]
 fn search_index(processes: &IndexMap<Pid, Process>, pid: Pid) -> Option<usize>
