@@ -1,4 +1,4 @@
--- Marks that are taken back, one after the other.
+-- Marks that are cleared, one after the other.
 use Rattle.std.proofs.Common.{◌≡◌, ◌≤◌, ◌<◌, ◌⊎◌, inl, inr, ℕ, false, sym, ap, ◌∙◌, subst, arith}
 use Rattle.std.specs.Prelude.{IsTrue, Some, is_some}
 use Rattle.std.specs.FinMap as map
@@ -13,7 +13,7 @@ abbrev pub AreWashed : Map Mark → ℕ → Type 0
 AreWashed m last = (f : ℕ) (x : Mark) → f ≤ last → map.get m f ≡ Some x → (f ≡ 0) ⊎ (x.epoch ≤ 0)
 
 module _ (m : Map Mark) (n : ℕ) where
-  -- The next file is washed too.
+  -- The mark of the next file is cleared too.
   pub washed_next : (last : ℕ) → ((q : ℕ) → last < q → q < n → map.contains_key m q ≡ false) → AreWashed m last → AreWashed (map.insert m n unmarked) n
   washed_next last least h f x low at = elim (same_or_not f n) [
     | inl e ↦ inr (subst (λ y. y.epoch ≤ 0) (some_same unmarked x (sym (ap (map.get (map.insert m n unmarked)) e ∙ insert-here m n unmarked) ∙ at)) (omega arith))

@@ -155,7 +155,7 @@ rooms-either (Err b) old new files ok err = ap rooms err
 
 -- ---- both lists
 
--- A new layer tells nothing.
+-- An empty table has nothing to tell.
 pub told-none : (l : FileTableView) (fs : List ℕ) (space : ℕ) (gone : List ℕ) (wide all : ℕ) (since : Since) → l.dirty ≡ map.empty → l.counts ≡ map.empty → l.last ≡ 0 → fs ≡ [] → since.changed ≡ false → since.released ≡ false → since.next ≡ 1 → AreTold l fs space gone wide all since
 told-none l fs space gone wide all since none uncounted first empty off mute next = record {
   dirty = dirty-none l fs space since none empty off;

@@ -8,7 +8,7 @@ pub enum Contents {
     Nothing,
     /// This file alone.
     One(FileRef),
-    /// Perhaps several files: it has a name, or a message with files that is not its last, or with
-    /// several.
+    /// Perhaps several files: it has a name, several messages of which one may have files, or one
+    /// message with several files.
     Several,
 }

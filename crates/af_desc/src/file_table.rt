@@ -103,8 +103,8 @@ impl FileTable {
         self.rows.room()
     }
 
-    /// Reserves room for this many rows more: then `push` needs no memory for them, and no other
-    /// call ever does. Nothing else changes, also on an error.
+    /// Reserves room for this many rows more: then `push` needs no memory for them. Nothing else
+    /// changes, also on an error.
     #[inline(always)]
     #[tactic(auto, using(crate::proofs::TrackedTableView::chains))]
     pub fn reserve(&mut self, rows: usize) -> Result<(), AllocError>
@@ -434,7 +434,7 @@ impl FileTable {
         row.mark = mark;
     }
 
-    /// Marks a file grey, with this place in the list, if it is not marked in this pass. Returns
+    /// Marks a file grey, with this position in the list, if it is not marked in this pass. Returns
     /// whether this call marked it.
     #[inline(always)]
     #[tactic(auto, using(crate::proofs::TrackedTableView::chains, ordered_slab::proofs::Parts::parts, ordered_slab::proofs::Values::lent))]
@@ -561,8 +561,8 @@ impl FileTable {
         let _rows = &self.rows;
     }
 
-    /// Returns the key of the row of a number, if there is one, by a search. A `FileRef` needs
-    /// none.
+    /// Returns a reference to the row of this number, if there is one, by a search. A look-up by
+    /// `FileRef` needs none if its hint is right.
     #[tactic(auto, using(crate::proofs::TrackedTableView::chains, ordered_slab::proofs::Parts::parts))]
     pub fn find(&self, ino: Ino) -> Option<FileRef>
         ensures there { IfSome result (λ f.

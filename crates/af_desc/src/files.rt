@@ -151,7 +151,8 @@ impl Files {
             || self.next.saturating_add(more as u64) > MAX_INO + 1
     }
 
-    /// Returns the file of that number, if it is known, by a search. A `FileRef` needs none.
+    /// Returns the file of that number, if it is known, by a search. A look-up by `FileRef` needs
+    /// none if its hint is right.
     pub fn find(&self, ino: Ino) -> Option<FileRef>
         ensures there { IfSome result (λ f. (f ≡ ino) × IsTrue (is_live self.now ino)) }
         ensures none { IfNone result (is_live self.now ino ≡ false) }
@@ -498,7 +499,7 @@ impl Files {
         self.rows.changed_sockets()
     }
 
-    /// Empties both lists. It takes no memory.
+    /// Empties both lists. Takes no memory.
     pub fn clear_told(&mut self)
         ensures { self.new ≡ record self.old {
           since = record self.old.since { files = self.old.files; next = self.old.next };

@@ -181,7 +181,7 @@ impl Files {
 }
 
 /// Removes the file from the list of grey files, if it is there. The last file takes its position,
-/// which its mark then keeps as a hint.
+/// and the mark of that file keeps it as a hint.
 #[inline(always)]
 fn remove_listed(rows: &mut TrackedTable, grey: &mut Vec<FileRef>, ino: Ino, at: usize)
     ensures each { (f : ℕ) → count_in f grey.new.items

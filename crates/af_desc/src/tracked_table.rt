@@ -49,7 +49,7 @@ pub struct TrackedTable {
     /// `Files`.
     space: usize,
     /// For how many files more there is room, in the table and in each of these lists. It falls
-    /// with each file that is made, and `reserve` counts it anew.
+    /// with each file that is made, and to 0 where a list is asked for; `reserve` counts it anew.
     room: usize,
     /// Whether one of the two lists is kept.
     is_asked: bool,
@@ -432,7 +432,7 @@ impl TrackedTable {
         self.table.set_mark(file, mark);
     }
 
-    /// Marks a file grey, with this place in the list, if it is not marked in this pass. Returns
+    /// Marks a file grey, with this position in the list, if it is not marked in this pass. Returns
     /// whether this call marked it.
     #[inline(always)]
     pub fn shade(&mut self, file: &FileRef, epoch: u32, at: u32) -> bool
@@ -549,7 +549,7 @@ impl TrackedTable {
         self.changed.as_slice()
     }
 
-    /// Empties both lists. It takes no memory.
+    /// Empties both lists. Takes no memory.
     pub fn clear_told(&mut self)
         ensures { self.new ≡ record self.old {
           since = record self.old.since { files = self.old.files; next = self.old.last + 1 };
@@ -658,7 +658,7 @@ fn remove_listed(table: &mut FileTable, changed: &mut Vec<FileRef>, file: &FileR
     update_moved_index(table, changed.as_slice(), at);
 }
 
-/// Sets the position of the file that took that place in the list: a hint.
+/// Sets the position of the file that is now at this position of the list: a hint.
 fn update_moved_index(table: &mut FileTable, changed: &[FileRef], at: Option<usize>)
     ensures { table.new ≡ table.old }
 {

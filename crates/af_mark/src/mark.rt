@@ -14,11 +14,11 @@ pub fn clamp_index(at: usize) -> u32 {
 /// A file's colour, and of which pass it is.
 #[derive(Clone, Copy)]
 pub struct Mark {
-    /// The pass; 0 is none.
+    /// The epoch of that pass; 0 is of none.
     pub epoch: u32,
     /// The colour that it got then.
     pub color: Color,
-    /// Its place in the list of the grey files: a hint.
+    /// Its position in the list of the grey files: a hint.
     pub at: u32,
 }
 
@@ -47,7 +47,7 @@ impl Mark {
         }
     }
 
-    /// Makes a mark of a file that is to be scanned in this pass, with its place in the list.
+    /// Makes a mark of a file that is to be scanned in this pass, with its position in the list.
     #[inline(always)]
     pub fn grey(epoch: u32, at: u32) -> Mark
         ensures { result ≡ grey_mark epoch at }
