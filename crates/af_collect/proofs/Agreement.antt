@@ -149,7 +149,7 @@ agrees-counts w m k same a = record {
   known = a.known;
 }
 
--- The numbers of a file without a place are struck out.
+-- The numbers of a file without a place are removed.
 pub agrees-struck : (w : World) (f : ℕ) (k : Tally) → refs_of k f ≡ 0 → Agrees w k → Agrees w (record k { counts = map.remove k.counts f })
 agrees-struck w f k none = agrees-counts w (map.remove k.counts f) k (λ g. count-struck k f g none)
 

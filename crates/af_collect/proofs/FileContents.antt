@@ -38,7 +38,7 @@ none_left (y ∷ xs) (suc i) e = none_left xs i e
 
 -- Files that are marked some at a time.
 module _ (all : List ℕ) (from : ℕ) (m : MarksView) where
-  -- So many of them, and then those behind them.
+  -- This many of them, and then those behind them.
   pub shaded_on : shaded_all (drop (from + BATCH) all) (shaded_all (take BATCH (drop from all)) m) ≡ shaded_all (drop from all) m
   shaded_on =
       ap (λ xs. shaded_all xs (shaded_all (take BATCH (drop from all)) m)) (ap (λ n. drop n all) (omega arith) ∙ sym (drop-drop BATCH from all))

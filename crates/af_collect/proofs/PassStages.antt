@@ -137,7 +137,7 @@ module _ (begun old : World) (x : ℕ) where
     counted = i.counted;
   }
 
--- All are swept, and nothing is to go.
+-- All are swept, and nothing is to be freed.
 module _ {begun now : World} (bound : ℕ) (s : IsSince begun now bound) (marked swept : ℕ → Bool) (reclaimed : ℕ) (i : IsSweeping begun now marked swept reclaimed)
     (settled : IsSettled now) (all : (f : ℕ) → IsLive now f → f < bound → swept f ≡ true) where
   -- Where all are swept, no garbage of the begin is live.

@@ -12,7 +12,7 @@ use af_base::ids::FileRef;
 
 impl Holdings {
     /// Begins a pass over the present files: none is marked. Costs the same for any number of
-    /// files, except once in 2^64 epochs, when it clears each mark.
+    /// files, except once in 2^32 epochs, when it clears each mark.
     pub(crate) fn start_epoch(&mut self)
         ensures unmarked { (f : ℕ) → is_marked self.new.marks f ≡ false }
         ensures known { (f : ℕ) → knows self.new.marks f ≡ knows self.old.marks f }

@@ -174,7 +174,8 @@ fn embryos(holdings: &Holdings, file: &FileRef) -> usize
     }
 }
 
-/// Returns the files attached to the messages of the file's queue, from this one on: 16 at most.
+/// Returns the files attached to the messages of the file's queue, from this position among them
+/// on: 16 at most.
 #[inline(always)]
 fn attached_from(holdings: &Holdings, file: &FileRef, from: usize) -> ArrayVec<FileRef, BATCH>
     ensures files { result.items

@@ -68,8 +68,8 @@ impl Store {
         Ok(())
     }
 
-    /// Gives a socket that has no name and never listened this one, which is free (bind(2)). On an
-    /// error nothing has changed.
+    /// Gives a socket that has no name this one, which is valid and free (bind(2)). On an error
+    /// nothing has changed.
     pub fn bind(&mut self, socket: &FileRef, name: &[u8]) -> Result<(), AllocError>
         requires nameless { IfSome (socket_at self.old.world socket.now) (λ s. s.name ≡ None) }
         requires name { is_name name.now ≡ true }
@@ -83,8 +83,8 @@ impl Store {
         holdings.files.bind(socket, name)
     }
 
-    /// Makes a socket that has a name, and was never connected, wait for connections (listen(2)).
-    /// At most `most` embryos wait at it, from 1 to `MAX_BACKLOG`. On an error nothing has changed.
+    /// Makes an idle socket that has a name wait for connections (listen(2)). At most `most` embryos
+    /// wait at it, from 1 to `MAX_BACKLOG`. On an error nothing has changed.
     pub fn listen(&mut self, socket: &FileRef, most: u32) -> Result<(), AllocError>
         requires named { IfSome (socket_at self.old.world socket.now) (λ s.
             is_none s.name ≡ false) }
@@ -99,9 +99,9 @@ impl Store {
         holdings.files.listen(socket, most)
     }
 
-    /// Makes an embryo: a socket that is connected to this client, which was never connected, and
-    /// the client to it. Appends it to the backlog of a listener that has room for it (connect(2)).
-    /// On an error nothing has changed.
+    /// Makes an embryo: a socket that is connected to this client, which is idle, and the client to
+    /// it. Appends it to the backlog of a listener that has room for it (connect(2)). On an error
+    /// nothing has changed.
     pub fn make_embryo(
         &mut self,
         kind: SockType,

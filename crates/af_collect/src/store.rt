@@ -115,8 +115,8 @@ impl Store {
         holdings.procs.set_limit(pid, limit);
     }
 
-    /// Reserves room to install this many descriptors of the process. Needs no memory if its table
-    /// is as long as its limit, or none is to come.
+    /// Reserves room to install this many descriptors of the process. No process can see a change,
+    /// also on an error. Needs no memory if the table is as long as the limit, or none is to come.
     #[inline(always)]
     pub fn room_for(&mut self, pid: Pid, count: usize) -> Result<(), AllocError>
         ensures world { self.new.world ≡ self.old.world }
@@ -194,7 +194,7 @@ impl Store {
         self.collector.holdings.files().changed_sockets()
     }
 
-    /// Empties both lists. It takes no memory.
+    /// Empties both lists. Takes no memory.
     pub fn clear_told(&mut self)
         ensures { self.new ≡ record self.old {
           since = record self.old.since {
@@ -329,7 +329,8 @@ impl Store {
         Ok(child)
     }
 
-    /// Ends a process, and frees all its descriptors. Takes no memory.
+    /// Ends a process, and closes all its descriptors (_exit(2)). Ignores an unknown process. Takes
+    /// no memory.
     pub fn remove_process(&mut self, pid: Pid)
         ensures world { self.new.world ≡ remove_process self.old.world pid }
         ensures pass { self.new.pass ≡ self.old.pass }
@@ -341,7 +342,7 @@ impl Store {
         let Some(process) = holdings.procs.find(pid) else {
             return;
         };
-        // The table is counted out before it is removed, since a removal moves it.
+        // The references go before the process, since its removal moves the table.
         unref_table(&mut holdings.files, process);
         holdings.procs.remove(pid);
     }

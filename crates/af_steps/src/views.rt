@@ -98,8 +98,9 @@ impl Engine {
         Some(next.ino())
     }
 
-    /// Returns the least live file above that number as a reference, with its position in the
-    /// order. A walk passes its last answer, and needs no search. The position is a hint.
+    /// Returns the least live file above that number as a reference, if there is one, and the
+    /// position behind it in the order. A walk passes its last answer, and needs no search. The
+    /// position is a hint.
     pub fn next_file(&self, ino: Ino, order_hint: usize) -> Option<(FileRef, usize)>
         ensures above { IfSome result (λ n. ino < n.0) }
         ensures live { IfSome result (λ n. IsLive self.now.world n.0) }
