@@ -89,7 +89,7 @@ module _ (tables : List ListedTable) (files : List ListedFile) (ordered : AreFil
   pub count_queued : (f : ℕ) → count_in f (flat_map (λ x. attached_in (queue_of (file_of x))) files) ≡ inflight (listed tables files) f
   count_queued f = count_flat f (λ x. attached_in (queue_of (file_of x))) files ∙ sym (files_total (λ x. count_in f (attached_in (queue_of x))) files ordered)
 
-  -- So many travel.
+  -- There are as many places in queues.
   pub length_queued : length (flat_map (λ x. attached_in (queue_of (file_of x))) files) ≡ total (listed tables files)
   length_queued =
       length-flat_map (λ x. attached_in (queue_of (file_of x))) files

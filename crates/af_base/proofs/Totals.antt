@@ -44,7 +44,7 @@ total-same F G m n up down =
     let high = total-below G F n m (λ k y is. let at = down k y is in (at.0, at.1, omega (arith, at.2))) in
     omega (arith, low, high)
 
--- So many ones add up to their number.
+-- A sum of ones is how many there are.
 entries_count : {X : Type 0} (es : List (ℕ × X)) → sum_by (λ e. 1) es ≡ length es
 entries_count [] = refl
 entries_count (e ∷ es) = omega (arith, sum_by-cons (λ d. 1) e es, entries_count es)

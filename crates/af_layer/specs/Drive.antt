@@ -35,7 +35,7 @@ turn_after budget other = event.Begin
 abbrev pub next_turn : ℕ → List Pair → Event
 next_turn budget list = turn_after budget (slice_get list (length list - 1))
 
--- So many turns were made, each with the event that the list asked for.
+-- This many turns were made, each with the event that the list asked for.
 pub data Turned (budget : ℕ) (old : List Pair) : ℕ → List Pair → Type 0 where
   NoTurn : Turned budget old 0 old
   OneMore : (n : ℕ) → (list : List Pair) → (r : Reply) → Turned budget old n list

@@ -57,7 +57,7 @@ LeastBelow jobs n (Some f) =
     × ((i : ℕ) (other : WorkerView) → i < n → IfSome (slice_index_or jobs i other).fault
     (λ e. f.0 ≤ (slice_index_or jobs i other).seat.number))
 
--- So much of a script was done, and the rest is left.
+-- A part of a script was done, and the rest is left.
 pub record ScriptProgress (old : List Pair) (script rest : List Event) (new : List Pair) : Type 0 where
   pub done : List Event
   pub split : script ≡ done ++ rest

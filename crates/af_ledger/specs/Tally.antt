@@ -74,11 +74,11 @@ is_user u us = list_any (nat_eq u) (keys_of us)
 abbrev pub with_user : ℕ → List (ℕ × ℕ) → List (ℕ × ℕ)
 with_user u us = if is_user u us then us else us ++ (u, 0) ∷ []
 
--- So many units of charge more (unix(7), ETOOMANYREFS: sent, and not yet received).
+-- This many units of charge more (unix(7), ETOOMANYREFS: sent, and not yet received).
 abbrev pub charged_by : ℕ → ℕ → Tally → Tally
 charged_by units u k = record k { users = recharged (λ n. n + units) u k.users; total = k.total + units }
 
--- So many units of charge less (unix(7), ETOOMANYREFS).
+-- This many units of charge less (unix(7), ETOOMANYREFS).
 abbrev pub freed_by : ℕ → ℕ → Tally → Tally
 freed_by units u k = record k { users = recharged (λ n. n - units) u k.users; total = k.total - units }
 

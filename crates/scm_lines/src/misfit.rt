@@ -16,7 +16,7 @@ use crate::payload::{MAX_PAYLOAD, first_byte};
 use crate::reason::Reason;
 use crate::words::{first_word, is_printable};
 
-/// The first place in a text that does not fit, and why.
+/// The first byte of a text that does not fit, and why.
 #[derive(Clone, Copy)]
 pub struct Misfit {
     /// The reason.
@@ -37,7 +37,7 @@ impl Misfit {
         }
     }
 
-    /// Returns the misfit as one of a longer text: this many bytes follow those looked at.
+    /// Returns the misfit as one of a longer text: these bytes follow those looked at.
     pub fn before(self, rest: &[u8]) -> Misfit
         requires { self.left + length rest.now < 2 ^ 64 }
         ensures reason { result.reason ≡ self.reason }

@@ -68,7 +68,7 @@ pub record RacedBy (Turns : ℕ → List Pair → Type 0) (workers steps seed : 
 abbrev pub Raced : ℕ → ℕ → ℕ → ℕ → BookView → Type 0
 Raced workers steps seed budget = RacedBy (Turned budget []) workers steps seed
 
--- So many turns were made in parts, each as by a collector that made none before.
+-- This many turns were made in parts, each as by a collector that made none before.
 pub data TurnedInParts (budget : ℕ) : ℕ → List Pair → Type 0 where
   NoPart : TurnedInParts budget 0 []
   OnePart : (n m : ℕ) → (before part : List Pair) → TurnedInParts budget n before

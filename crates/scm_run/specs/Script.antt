@@ -130,13 +130,13 @@ pub record RanAsRead (told left before after : Option (List ℕ)) : Type 0 where
   pub cut : IsCut taken whole rest
   pub all : Wrote (map strip_carriage_return whole) events before after
 
--- So many lines from the first on were run, and their text was written.
+-- Some lines, from the first on, were run, and their text was written.
 pub record RanFirst (input : List ℕ) (before after : Option (List ℕ)) : Type 0 where
   pub count : ℕ
   pub events : ℕ
   pub all : Wrote (take count (lines input)) events before after
 
--- So many lines from the first on were run, and a beginning of their text was written.
+-- Some lines, from the first on, were run, and a beginning of their text was written.
 pub record WroteFirst (input : List ℕ) (before after : Option (List ℕ)) : Type 0 where
   pub count : ℕ
   pub beginning : WroteBeginning (take count (lines input)) before after

@@ -12,8 +12,7 @@ use crate::watched::Watched;
 use crate::writes::{WriteFailed, write_whole};
 use std::io::Write;
 
-/// How many bytes of text are gathered at least before they are written for lack of room. Gathered
-/// text is written before each read too.
+/// Gathered text is written once it has more bytes than this, and before each read.
 const GATHERED: usize = 65_536;
 
 /// Writes what is gathered.
