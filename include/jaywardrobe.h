@@ -109,7 +109,7 @@ enum jw_limit {
     JW_MAX_BACKLOG = 128,      /* Embryos in a backlog: connections that wait at a listener. */
     JW_MAX_INFLIGHT = 1048576, /* Descriptors in flight, of all users together. */
     JW_MAX_NAME = 107,         /* Bytes of a name. */
-    JW_MAX_BUDGET = 65536      /* The largest budget of a slice, in files. The smallest is 1. */
+    JW_MAX_BUDGET = 65536      /* The largest budget of a slice, in units. The smallest is 1. */
 };
 
 /* What a file is: its kind, which is also the type of a new socket. */

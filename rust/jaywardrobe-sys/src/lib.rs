@@ -109,7 +109,7 @@ pub const JW_MAX_BACKLOG: u32 = 128;
 pub const JW_MAX_INFLIGHT: u32 = 1048576;
 /// Bytes of a name.
 pub const JW_MAX_NAME: u32 = 107;
-/// The largest budget of a slice, in files. The smallest is 1.
+/// The largest budget of a slice, in units. The smallest is 1.
 pub const JW_MAX_BUDGET: u32 = 65536;
 
 // Kinds of files. Two of them are also the types of a new socket.

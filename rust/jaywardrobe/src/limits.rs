@@ -19,5 +19,5 @@ pub const MAX_BACKLOG: u32 = sys::JW_MAX_BACKLOG;
 pub const MAX_INFLIGHT: usize = sys::JW_MAX_INFLIGHT as usize;
 /// Bytes of a name.
 pub const MAX_NAME: usize = sys::JW_MAX_NAME as usize;
-/// The largest budget of a slice, in files. The smallest is 1.
+/// The largest budget of a slice, in units. The smallest is 1.
 pub const MAX_BUDGET: u32 = sys::JW_MAX_BUDGET;
