@@ -375,8 +375,8 @@ int64_t jw_peek(jw_engine *engine, uint32_t pid, uint32_t fd, void *bytes, size_
 JW_MUST_USE JW_NONNULL(1, 2)
 int64_t jw_begin(jw_engine *engine, uint64_t *pass);
 
-/* Continues the pass by at most budget files, 1 to 65536. Answers 1 while the pass runs. Answers 0
- * when it is over, and writes what jw_pass writes.
+/* Continues the pass by at most budget units, 1 to 65536; a unit visits, scans or sweeps one file.
+ * Answers 1 while the pass runs. Answers 0 when it is over, and writes what jw_pass writes.
  * Errors: JW_EIDLE, JW_EINVAL. */
 JW_MUST_USE JW_NONNULL(1, 3)
 int64_t jw_slice(jw_engine *engine, uint32_t budget, struct jw_finished *out);

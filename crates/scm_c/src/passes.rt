@@ -38,8 +38,8 @@ pub extern "C" fn jw_begin(alloc: Global, engine: &mut Handle, pass: &mut u64) -
     code(&reply)
 }
 
-/// Continues the pass by at most `budget` files, 1 to 65536. Answers 1 while the pass runs. Answers
-/// 0 when it is over, and writes what jw_pass writes.
+/// Continues the pass by at most `budget` units, 1 to 65536; a unit visits, scans or sweeps one
+/// file. Answers 1 while the pass runs. Answers 0 when it is over, and writes what jw_pass writes.
 ///
 /// Errors: JW_EIDLE, JW_EINVAL.
 #[must_use]

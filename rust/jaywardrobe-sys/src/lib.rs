@@ -349,8 +349,9 @@ unsafe extern "C" {
     ///
     /// Errors: JW_EBUSY.
     pub fn jw_begin(engine: *mut jw_engine, pass: *mut u64) -> i64;
-    /// Continues the pass by at most budget files, 1 to 65536. Answers 1 while the pass runs.
-    /// Answers 0 when it is over, and writes what jw_pass writes.
+    /// Continues the pass by at most budget units, 1 to 65536; a unit visits, scans or sweeps one
+    /// file. Answers 1 while the pass runs. Answers 0 when it is over, and writes what jw_pass
+    /// writes.
     ///
     /// Errors: JW_EIDLE, JW_EINVAL.
     pub fn jw_slice(engine: *mut jw_engine, budget: u32, out: *mut jw_finished) -> i64;
