@@ -1,6 +1,6 @@
 //! Changes of the references of single descriptors and messages. Each is one change of the world,
 //! and keeps the counts in step with it. An unreferenced file stays, with all that it holds, until
-//! `release` frees it; only `close` may remove a file that holds nothing at once.
+//! `release` frees it; only `close` may remove a file that holds nothing immediately.
 ghost use Rattle.std.specs.Prelude.{◌≡◌, ◌<◌, ◌≤◌, ◌+◌, ℕ, None, IsTrue, IfOk};
 ghost use Rattle.std.specs.Prelude.{IfSome, OnOk, OnErr, length, false, is_none, is_some};
 ghost use Rattle.std.specs.Prelude.{[], true};
@@ -140,7 +140,7 @@ impl Store {
         true
     }
 
-    /// Closes a descriptor of a process, if it is open, and may remove its file at once, if that
+    /// Closes a descriptor of a process, if it is open, and may remove its file immediately, if that
     /// holds nothing. Returns whether the descriptor was open. Takes no memory.
     #[inline(always)]
     fn close_and_free(&mut self, pid: Pid, fd: Fd) -> bool
@@ -299,7 +299,7 @@ fn drop_replaced(progress: &PassProgress, files: &mut Files, was: Option<FileRef
 }
 
 /// Drops the reference of a descriptor to a file, which is marked first, while marking. A file
-/// without another reference that holds nothing may be removed at once. Returns whether it was.
+/// without another reference that holds nothing may be removed immediately. Returns whether it was.
 /// Takes no memory.
 #[inline(always)]
 fn drop_and_free(progress: &PassProgress, files: &mut Files, file: &FileRef) -> bool

@@ -144,9 +144,9 @@ impl Files {
     }
 
     /// Drops the reference of a descriptor to a file, which has one. With its last reference, a
-    /// file that has no name and holds nothing is removed at once, which hangs up its peer, unless a
-    /// running pass may have to mark the file; any other becomes unreferenced. Returns whether it
-    /// was removed. Takes no memory.
+    /// file that has no name and holds nothing is removed immediately, which hangs up its peer,
+    /// unless a running pass may have to mark the file; any other becomes unreferenced. Returns
+    /// whether it was removed. Takes no memory.
     #[inline(always)]
     pub fn drop_descriptor(&mut self, file: &FileRef) -> bool
         requires { IsCounted Table (count_in_map self.old.counts file.now) }

@@ -1,7 +1,7 @@
 //! A picture of an engine: its processes, its files, and who holds which, as a text in the language
 //! of Graphviz.
 //!
-//! A text is made whole, of the engine at the call. Fails only if memory for it is refused.
+//! A text is made whole, of the engine at the call. A call fails only if memory is refused.
 #![tactic(auto)]
 
 mod contents;

@@ -83,7 +83,7 @@ module _ (m n : Map Mark) (e : ℕ) (fs : List ℕ) (room : ℕ) (h : IsGreyList
           (subst (AreUpTo e) (sym is) (upto_put e m f x (omega (arith, now)) h.0), pushed.0, omega (arith, fits, many)),
         )
 
-    -- A white file becomes black at once, and is never in the list.
+    -- A white file becomes black, and is never in the list.
     pub listed-bare : x.color ≡ Black → grey_by e m f ≡ false → IsGreyList n e fs room
     listed-bare black white = let fits = h.2 in (
       subst (AreUpTo e) (sym is) (upto_put e m f x (omega (arith, now)) h.0),

@@ -18,7 +18,7 @@ unmarked = record { epoch = 0; color = White; at = 0 }
 abbrev pub black_mark : ℕ → Mark
 black_mark epoch = record { epoch = epoch; color = Black; at = 0 }
 
--- A mark of a file that is to be scanned in this pass, with its place in the list.
+-- A mark of a file that is to be scanned in this pass, with its position in the list.
 abbrev pub grey_mark : ℕ → ℕ → Mark
 grey_mark epoch at = record { epoch = epoch; color = Grey; at = at }
 
@@ -30,7 +30,7 @@ color_in epoch x = if nat_eq x.epoch epoch then x.color else White
 abbrev pub colors_in : ℕ → Map Mark → Map Color
 colors_in epoch m = part (color_in epoch) m
 
--- A mark with another place in the list beside it.
+-- A mark with another position in the list.
 abbrev pub placed : ℕ → Mark → Mark
 placed at x = record x { at = at }
 

@@ -56,7 +56,7 @@ forgotten f m = record m { colors = map.remove m.colors f }
 abbrev pub shaded : ℕ → MarksView → MarksView
 shaded f m = if nat_lt f m.bound && is_white m f then record m { colors = map.insert m.colors f Grey } else m
 
--- The same, but f is black at once where it was scanned too.
+-- The same, but f is black where it was scanned too.
 abbrev pub marked_once : Bool → ℕ → MarksView → MarksView
 marked_once scanned f m = if nat_lt f m.bound && is_white m f
     then record m { colors = map.insert m.colors f (if scanned then Black else Grey) } else m

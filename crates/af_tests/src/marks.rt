@@ -1,4 +1,4 @@
-//! A last close frees a file at once where no pass runs, which no clause says.
+//! A last close frees a file immediately where no pass runs, which no clause says.
 use af_base::events::{SockType, State};
 use af_base::ids::FileRef;
 use af_desc::Files;
@@ -18,7 +18,7 @@ fn drop_frees(rt: &impl Abort, files: &mut Files, file: &FileRef) -> bool {
     files.drop_descriptor(file)
 }
 
-/// Closes one of two connected sockets, which is freed at once and hangs up the other.
+/// Closes one of two connected sockets, which is freed immediately and hangs up the other.
 fn close_one_end(rt: &impl Abort, files: &mut Files) -> Result<(), AllocError> {
     assert!(rt; !files.is_full(2));
     let (first, second) = files.make_two(SockType::Stream, &Place::Table)?;
@@ -29,8 +29,8 @@ fn close_one_end(rt: &impl Abort, files: &mut Files) -> Result<(), AllocError> {
     Ok(())
 }
 
-/// Drops the last descriptor of two plain files beside that socket: the first is freed at once, and
-/// the second, which a pass began with, is listed as unreferenced.
+/// Drops the last descriptor of two plain files beside that socket: the first is freed immediately,
+/// and the second, which a pass began with, is listed as unreferenced.
 fn free_or_list(rt: &impl Abort, files: &mut Files) -> Result<(), AllocError> {
     let (first, second) = (file(rt, files)?, file(rt, files)?);
     let freed = drop_frees(rt, files, &first);

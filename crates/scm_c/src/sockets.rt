@@ -135,7 +135,7 @@ pub extern "C" fn jw_listen(
 }
 
 /// Connects a socket to the listener of this name, without waiting (connect(2)). The socket is
-/// connected at once, and the other end waits to be accepted. Answers 0.
+/// connected immediately, and the other end waits to be accepted. Answers 0.
 ///
 /// Errors: JW_ESRCH, JW_EBADF, JW_ENOTSOCK, JW_EINVAL, JW_EISCONN, JW_ECONNREFUSED,
 /// JW_EPROTOTYPE, JW_EAGAIN, JW_ENFILE, JW_ENOMEM.

@@ -180,8 +180,8 @@ impl Engine {
         self.handle.listen(by.0, on.0, backlog).map(drop)
     }
 
-    /// Connects a socket to the listener of this name (connect(2)). The socket is connected at
-    /// once, and the other end waits to be accepted.
+    /// Connects a socket to the listener of this name (connect(2)). The socket is connected
+    /// immediately, and the other end waits to be accepted.
     ///
     /// ```
     /// use jaywardrobe::{Engine, Errno, SockType};
