@@ -29,8 +29,8 @@ impl Store {
         self.collector.progress.looked
     }
 
-    /// Does nothing at run time. Shows what a running pass keeps between any two calls: of its marks,
-    /// and of how far it is.
+    /// Does nothing at run time. Shows what a running pass keeps between any two calls: of its
+    /// marks, and of how far it is.
     pub fn lemma_pass(&self)
         ensures { (begun : World) (spent : ℕ) → self.now.pass ≡ Running begun spent
             → PassInvariant self.now.world begun self.now.marks self.now.progress }

@@ -140,8 +140,8 @@ impl Store {
         true
     }
 
-    /// Closes a descriptor of a process, if it is open, and may remove its file immediately, if that
-    /// holds nothing. Returns whether the descriptor was open. Takes no memory.
+    /// Closes a descriptor of a process, if it is open, and may remove its file immediately, if
+    /// that holds nothing. Returns whether the descriptor was open. Takes no memory.
     #[inline(always)]
     fn close_and_free(&mut self, pid: Pid, fd: Fd) -> bool
         ensures open { result ≡ is_some (table_at self.old.world pid fd) }

@@ -83,8 +83,8 @@ impl Store {
         holdings.files.bind(socket, name)
     }
 
-    /// Makes an idle socket that has a name wait for connections (listen(2)). At most `most` embryos
-    /// wait at it, from 1 to `MAX_BACKLOG`. On an error nothing has changed.
+    /// Makes an idle socket that has a name wait for connections (listen(2)). At most `most`
+    /// embryos wait at it, from 1 to `MAX_BACKLOG`. On an error nothing has changed.
     pub fn listen(&mut self, socket: &FileRef, most: u32) -> Result<(), AllocError>
         requires named { IfSome (socket_at self.old.world socket.now) (λ s.
             is_none s.name ≡ false) }

@@ -1,8 +1,8 @@
 //! A lock from which a thread that finds it taken stays away.
 //!
 //! A call holds the lock for some tens of nanoseconds. A thread that looks at it again immediately,
-//! or is woken for it, takes the engine's cache lines from the thread that works. So it stays away: for
-//! longer after each of the first looks, and then for the time of a nap.
+//! or is woken for it, takes the engine's cache lines from the thread that works. So it stays away:
+//! for longer after each of the first looks, and then for the time of a nap.
 use std::hint::spin_loop;
 use std::sync::atomic::AtomicU64;
 use std::sync::{Mutex, MutexGuard, Wait};

@@ -44,8 +44,8 @@ impl Origin for AtCheckpoint {
     ghost begins = { IsReached };
 }
 
-/// For a call that picks the origin in its proof, as `LongRace` of `scm_race` does. Without a pick it
-/// is that of `Fresh`.
+/// For a call that picks the origin in its proof, as `LongRace` of `scm_race` does. Without a pick
+/// it is that of `Fresh`.
 impl Origin for Brand {
     ghost begins = { λ seats machine. machine ≡ fresh };
 }

@@ -95,8 +95,8 @@ impl Taken {
         self.bytes = bytes;
     }
 
-    /// Takes the files of a message, and the user who sent it. The result has no files before. Takes
-    /// no memory.
+    /// Takes the files of a message, and the user who sent it. The result has no files before.
+    /// Takes no memory.
     #[inline(always)]
     pub(crate) fn take_files(&mut self, message: &mut Msg)
         requires { self.old.message.attached ≡ [] }

@@ -77,8 +77,8 @@ impl Bits {
         None
     }
 
-    /// Returns a number that is above each number of the set below this one. Looks at no word beyond
-    /// this one's.
+    /// Returns a number that is above each number of the set below this one. Looks at no word
+    /// beyond this one's.
     pub fn end_below(&self, below: u32) -> u32
         requires { below ≤ MAX_NOFILE }
         ensures { (q : ℕ) → result ≤ q → q < below → is_taken self.now.words q ≡ false }
