@@ -46,6 +46,6 @@ pub same_queue : (gone : ℕ → Bool) (x : File) → queue_of (file_without gon
 same_queue gone Plain = refl
 same_queue gone (AsSocket s) = refl
 
--- With a file go the messages of its queue, and no other.
+-- With a file the messages of its queue are freed, and no others.
 pub messages-without : (w : World) (f : ℕ) (x : File) → map.get w.files f ≡ Some x → messages_in (without (nat_eq f) w) + length (queue_of x) ≡ messages_in w
 messages-without w f x is = total-without (λ y. length (queue_of y)) (λ gone y. ap length (same_queue gone y)) w f x is

@@ -1,4 +1,4 @@
--- One file dropped touches its peer alone, where peers are mutual.
+-- A file that is freed changes its peer alone, where peers are mutual.
 use Rattle.std.proofs.Common.{◌≡◌, ℕ, Bool, true, false, not, refl, sym, ap, ◌∙◌, cond, nat_eq}
 use Rattle.std.specs.Prelude.{Option, Some, None, option_map}
 use Rattle.std.specs.Option.{option_map_or}

@@ -75,7 +75,7 @@ module _ (w : World) (kind : SockType) where
     ]
   ]
 
-  -- The peer of a live file.
+  -- The connection state of a live file.
   state_there : (q : ℕ) (o : Option File) → map.get new.files q ≡ o → state_at new q ≡ option_map_or state_of o state.Idle
   state_there q o e = ap (λ o. option_map_or state_of o state.Idle) e
 

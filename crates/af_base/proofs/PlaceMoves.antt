@@ -53,11 +53,11 @@ others-changed w s g q apart = by (map.get w.files s) where
   by None = refl
   by (Some y) = insert-other w.files s (file_with g y) q apart
 
--- The peer of a live file.
+-- The connection state of a live file.
 pub state-there : (w : World) (f : ℕ) (x : File) → map.get w.files f ≡ Some x → state_at w f ≡ state_of x
 state-there w f x at = ap (λ o. option_map_or state_of o state.Idle) at
 
--- Another file keeps its peer.
+-- Another file keeps its connection state.
 pub state-others : (w : World) (s : ℕ) (g : Socket → Socket) (q : ℕ) → nat_eq q s ≡ false → state_at (with_socket w s g) q ≡ state_at w q
 state-others w s g q apart = ap (λ o. option_map_or state_of o state.Idle) (others-changed w s g q apart)
 

@@ -215,7 +215,7 @@ leaves-taken Seqpacket (m ∷ q) n k = record { carried = refl; fewer = omega ar
 pub leaves-first : (q : List Message) (m : Message) (rest : List Message) → AreWithin q → q ≡ m ∷ rest → Leaves q m.attached rest
 leaves-first q m rest k e = subst (λ l. Leaves l m.attached rest) (sym e) (record { carried = refl; fewer = omega arith; within = λ x h. k x (subst (λ l. Contains l x) (sym e) (Contains-later m rest x h)) })
 
--- Files that travel with a message of a queue are in the queue.
+-- Files attached to a message of a queue are in the queue.
 found-carried : (q : List Message) (m : Message) (f : ℕ) → find has_files q ≡ Some m → Contains m.attached f → Contains (attached_in q) f
 found-carried [] m f e h = absurd (none_some m e)
 found-carried (x ∷ q) m f e h = elim (cases_Bool (has_files x)) [

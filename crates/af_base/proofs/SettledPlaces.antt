@@ -16,7 +16,7 @@ settled-held w f s l = elim (cases_lt 0 (refs w f)) [
       absurd (s f (Goes f l none.0 (λ q h. absurd (none.1 q h))))
 ]
 
--- Nothing is to go where each live file has a place.
+-- Nothing is to be freed where each live file has a place.
 pub settled-counted : (w : World) → ((f : ℕ) → IsLive w f → 0 < refs w f) → IsSettled w
 settled-counted w h = settled_by w (λ f l. held_by_some w f (h f l))
 

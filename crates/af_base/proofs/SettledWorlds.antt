@@ -57,11 +57,11 @@ without_none w = ap (λ fs. record w { files = fs }) (map.same_map nat_cmp_total
   each None = refl
   each (Some x) = ap Some (same_file x)
 
--- Where nothing is to go, nothing changes.
+-- Where nothing is to be freed, nothing changes.
 pub settles_none : (w : World) → IsSettled w → Settles w w
 settles_none w s = (λ _. false, λ f. (λ e. absurd (false≢true e), λ u. absurd (s f u)), sym (without_none w))
 
--- Where each live file has a holder, nothing is to go.
+-- Where each live file has a holder, nothing is to be freed.
 pub settled_by : (w : World) → ((f : ℕ) → IsTrue (is_live w f) → InTable w f ⊎ ((s : ℕ) × Holds w s f)) → IsSettled w
 settled_by w held _ (Goes f live no_table holders) =
     elim (held f live) [

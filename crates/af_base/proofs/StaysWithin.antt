@@ -125,7 +125,7 @@ total-push w s m x at =
     let longer : sum_by (λ n. length n.attached) (x.queue ++ m ∷ []) ≡ sum_by (λ n. length n.attached) x.queue + length m.attached = sum_by_push (λ n. length n.attached) x.queue m in
     omega (arith, longer, total-change_at places (file_with (λ x. record x { queue = x.queue ++ m ∷ [] })) w.files s (AsSocket x) at)
 
--- A queue has as many places as files travel in it.
+-- A queue has as many places as files are attached there.
 sum-carried : (q : List Message) → sum_by (λ n. length n.attached) q ≡ length (attached_in q)
 sum-carried [] = refl
 sum-carried (m ∷ q) = omega (arith, sum-carried q, sum_by-cons (λ n. length n.attached) m q, length-append m.attached (attached_in q))

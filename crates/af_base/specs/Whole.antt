@@ -14,12 +14,12 @@ use Rattle.af_base.specs.Names.{is_name}
 use Rattle.af_base.specs.Refusals.{is_listening, room_of, socket_at}
 use Rattle.af_base.specs.Unheld.{IsSettled}
 
--- The peer state of a file; a plain file has none.
+-- The connection state of a file; a plain file is idle.
 abbrev pub state_of : File → State
 state_of Plain = state.Idle
 state_of (AsSocket s) = s.state
 
--- The peer of the file f.
+-- The connection state of the file f; an unknown file is idle.
 abbrev pub state_at : World → ℕ → State
 state_at w f = option_map_or state_of (map.get w.files f) state.Idle
 

@@ -152,7 +152,7 @@ pub none_fits : (row : RefusalRow) → AllByRecursion (λ r. r.0 ≡ false) row 
 none_fits [] h = refl
 none_fits (r ∷ row) h = ap (λ b. cond b (Some r.1) (first_fit row)) h.0 ∙ none_fits row h.1
 
--- A step that is done, and leaves nothing to go.
+-- A step that is done, and leaves nothing to be freed.
 outcome_done : (o : Option Errno) (frugal : Bool) (answer r : Reply) (now old new : World) → o ≡ None → r ≡ answer → now ≡ new → IsSettled new → Outcome o frugal answer now old r new
 outcome_done o frugal answer r now old new fits answers leads settled = subst (λ x. Outcome x frugal answer now old r new) (sym fits) (by frugal) where
   settles : Settles now new

@@ -1,4 +1,4 @@
--- Settling has an outcome: files that nothing holds are taken away one by one, until none is left.
+-- Settling has an outcome: files that nothing holds are freed one by one, until none is left.
 use Rattle.std.proofs.Common.{◌≡◌, ◌⊎◌, inl, inr, ◌<◌, ◌≤◌, ℕ, zero, suc, Bool, true, false, not, List, [], ◌∷◌, refl, sym, ap, ◌∙◌, subst, cond, arith, nat_eq}
 use Rattle.std.specs.List.{Contains, count_by, list_any}
 use Rattle.std.specs.Ordering.{eq_by_cmp, nat_cmp}
@@ -61,7 +61,7 @@ unplaced_or_not w (k ∷ ks) = by (none_or_some (refs w k)) (cases_Bool (is_live
   by (inr p) live (inr rest) = inr (λ f h. here f (λ l. p) rest (Contains-append_cases (k ∷ []) ks f h))
   by (inl z) (inr dead) (inr rest) = inr (λ f h. here f (λ l. absurd (false≢true (sym dead ∙ l))) rest (Contains-append_cases (k ∷ []) ks f h))
 
--- A live file taken away is one live file less.
+-- A live file that is freed is one live file less.
 still_live : (w : World) (f x : ℕ) → IsLive (without (nat_eq f) w) x → IsLive w x
 still_live w f x l = (stays _ _ (sym (live-without (nat_eq f) w x) ∙ l)).1
 

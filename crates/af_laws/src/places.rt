@@ -65,7 +65,7 @@ pub fn exit_keeps_charges()
     ensures { ExitKeepsCharges }
 {}
 
-/// A message that is sent counts each file that travels with it once more, repeats included.
+/// A message that is sent counts each attached file once more, repeats included.
 pub fn send_counts()
     ensures { SendCounts }
 {}

@@ -29,7 +29,7 @@ pub fn settling_twice_is_once()
     ensures { SettlingTwiceIsOnce }
 {}
 
-/// Where some place holds each live file, nothing is to go.
+/// Where some place holds each live file, nothing is freed.
 pub fn held_world_is_settled()
     ensures { HeldWorldIsSettled }
 {}
@@ -44,7 +44,7 @@ pub fn unplaced_is_unheld()
     ensures { UnplacedIsUnheld }
 {}
 
-/// To take away first a live file that no place holds leaves the outcome of settling as it was.
+/// To free first a live file that no place holds leaves the outcome of settling as it was.
 pub fn unplaced_goes_first()
     ensures { UnplacedGoesFirst }
 {}

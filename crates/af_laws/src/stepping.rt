@@ -8,7 +8,7 @@ pub fn fork_copies()
     ensures { ForkCopies }
 {}
 
-/// An exit takes the process away, with its table, and changes no other.
+/// An exit removes the process, with its table, and changes no other.
 pub fn exit_takes_one_table()
     ensures { ExitTakesOneTable }
 {}

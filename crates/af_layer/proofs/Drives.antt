@@ -33,7 +33,7 @@ jobs-count [] works = refl
 jobs-count (s ∷ seats) [] = omega (arith, jobs-count seats [])
 jobs-count (s ∷ seats) (work ∷ works) = omega (arith, jobs-count seats works)
 
--- The job at a place is of the seat and the work there.
+-- The job at a position is of the seat and the work there.
 jobs-at : (seats : List SeatView) (works : List Work) (i : ℕ) (other : WorkerView) → i < length seats → slice_index_or (jobs_of seats works) i other ≡ job (slice_index_or seats i nobody) (slice_get works i)
 jobs-at [] works i other lt = absurd (omega (arith, lt))
 jobs-at (s ∷ seats) [] zero other lt = refl
@@ -56,7 +56,7 @@ not-below None k n least lt = refl
 not-below (Some e) k n least lt = absurd (omega (arith, least, lt))
 
 module _ (seats : List SeatView) (works : List Work) (jobs done : List WorkerView) (after : List SeatView) (is : jobs ≡ jobs_of seats works) (count : length done ≡ length jobs) (worked : AllWorked jobs done) (back : after ≡ seats_of done) where
-  -- The job at a place when its worker is done.
+  -- The job at a position when its worker is done.
   done-at : ℕ → WorkerView
   done-at i = slice_index_or done i idle
 
@@ -64,7 +64,7 @@ module _ (seats : List SeatView) (works : List Work) (jobs done : List WorkerVie
   done-count : length done ≡ length seats
   done-count = count ∙ ap length is ∙ jobs-count seats works
 
-  -- Its worker had the seat and the work of that place.
+  -- Its worker had the seat and the work of that position.
   worked-at : (i : ℕ) → i < length seats → Worked (job (slice_index_or seats i nobody) (slice_get works i)) (done-at i)
   unfolding done-at
   worked-at i lt = subst (λ j. Worked j (done-at i)) (ap (λ l. slice_index_or l i idle) is ∙ jobs-at seats works i idle lt) (worked i idle (omega (arith, lt, done-count, count)))

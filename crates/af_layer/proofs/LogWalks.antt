@@ -36,7 +36,7 @@ tracks-wrong log list k (Some c) apart t whole =
     let end : c ≡ length list = omega (arith, length-drop c list, len, t.0) in
     apart (ap Some end)
 
--- A cursor that was told apart from a place is another.
+-- A cursor that differs from a position is another.
 pub another : (c : Option ℕ) (n : ℕ) → true ≡ not (option_eq nat_eq c (Some n)) → c ≡ Some n → ⊥
 another None n told same = none_some n same
 another (Some m) n told same = grind (arith, told, same)
@@ -45,7 +45,7 @@ another (Some m) n told same = grind (arith, told, same)
 pub tracks-start : (log : List Entry) (list : List Pair) (k : ℕ) → Tracks log list k 0 (Some 0)
 tracks-start log list k = (omega arith, (λ whole. whole, λ whole. whole))
 
--- The entry at a place is what is left there first.
+-- The entry at a position is the first that is left there.
 pub entry-at : (log : List Entry) (i : ℕ) (e : Entry) → i < length log → e ≡ get_or log i e → drop i log ≡ e ∷ drop (i + 1) log
 entry-at log i e here is = let next : suc i ≡ i + 1 = omega arith in drop-cons log i e here ∙ (λ j. sym is j ∷ drop (next j) log)
 

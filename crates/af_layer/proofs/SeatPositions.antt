@@ -12,7 +12,7 @@ use Rattle.af_layer.specs.Walk.{ArePlaces, ArePlacesOf}
 pub known_number : (n k : ℕ) → is_seat n k ≡ true → k ≤ n
 known_number n k e = grind arith
 
--- At first all places are the first.
+-- At first all positions are the first.
 pub places-first : (seats : List SeatView) (places : List ℕ) → 0 < length seats → length places ≡ MAX_SEATS + 1 → ((k : ℕ) → k < length places → slice_index places k ≡ 0) → ArePlacesOf 0 seats places
 places-first seats places some all zeros = record {
   count = all;
@@ -34,7 +34,7 @@ places-next n i k seats places known here few is before = let fits : k < length 
   ];
 }
 
--- The places of all seats, where none is missing.
+-- The positions of all seats, where none is missing.
 pub places-all : (n : ℕ) (seats : List SeatView) (places : List ℕ) → NoneMissing n seats → ArePlacesOf (length seats) seats places → ArePlaces n seats places
 places-all n seats places all_there of = record {
   count = of.count;

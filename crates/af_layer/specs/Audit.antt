@@ -10,7 +10,7 @@ use Rattle.af_layer.specs.Seats.{SeatView}
 abbrev pub nobody : SeatView
 nobody = record { number = 0; list = [] }
 
--- The number of the seat at place i of a list of seats.
+-- The number of the seat at position i of a list of seats.
 abbrev pub number_at : List SeatView → ℕ → ℕ
 number_at seats i = (slice_index_or seats i nobody).number
 
@@ -18,7 +18,7 @@ number_at seats i = (slice_index_or seats i nobody).number
 abbrev pub list_at : List SeatView → ℕ → List Pair
 list_at seats i = (slice_index_or seats i nobody).list
 
--- The seat at place i has a number from 1 to n, and none before it has the same.
+-- The seat at position i has a number from 1 to n, and none before it has the same.
 abbrev pub IsKnown : ℕ → List SeatView → ℕ → Type 0
 IsKnown n seats i = (is_seat n (number_at seats i) ≡ true)
     × ((j : ℕ) → j < i → number_at seats j ≢ number_at seats i)

@@ -11,7 +11,7 @@ pub record ArePlacesOf (i : ℕ) (seats : List SeatView) (places : List ℕ) : T
   pub within : (k : ℕ) → k < length places → slice_index places k < length seats
   pub right : (m : ℕ) → m < i → slice_index places (number_at seats m) ≡ m
 
--- Each number from 1 to n has the place of its seat.
+-- Each number from 1 to n has the position of its seat.
 pub record ArePlaces (n : ℕ) (seats : List SeatView) (places : List ℕ) : Type 0 where
   pub count : length places ≡ MAX_SEATS + 1
   pub within : (k : ℕ) → k < length places → slice_index places k < length seats

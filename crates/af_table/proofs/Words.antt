@@ -88,7 +88,7 @@ place_found word k h fits some =
       reached t true e set = let no = sym set ∙ high_below word k t h (omega (arith, ltb-true t k e)) in absurd (omega arith)
       reached t false e set = omega (arith, ltb-false t k e)
 
--- Where no bit is left, no place from k on is set.
+-- Where no bit is left, no position from k on is set.
 pub place_none : (word k : ℕ) → k < 64 → high_of word k ≡ 0 → HasNoPlace word k true
 place_none word k h none = λ q le lt. same_bit (bit_at word q) 0 (sym (high_from word k q h le lt) ∙ ap (λ w. bit_at w q) none ∙ bit_at-zero q)
 
@@ -107,7 +107,7 @@ twice : (b : Bool) → not (not b) ≡ b
 twice true = refl
 twice false = refl
 
--- A place whose bit is set in the complement has a clear one in the word.
+-- A position whose bit is set in the complement has a clear one in the word.
 place_of_not : (word k n : ℕ) → word < 2 ^ 64 → IsPlace (18446744073709551615 - word) k true n → IsPlace word k false n
 place_of_not word k n fits h = record {
   found = sym (twice (is_set word n)) ∙ ap not (sym (set_of_not word n fits h.low) ∙ h.found);
@@ -116,12 +116,12 @@ place_of_not word k n fits h = record {
   least = λ q le lt. sym (twice (is_set word q)) ∙ ap not (sym (set_of_not word q fits (let low = h.low in omega arith)) ∙ h.least q le lt);
 }
 
--- The same of a place that may be missing.
+-- The same of a position that may be missing.
 pub places_of_not : (word k : ℕ) (b : Bool) (o : Option ℕ) → b ≡ false → word < 2 ^ 64 → IfSome o (λ n. IsPlace (18446744073709551615 - word) k true n) → IfSome o (λ n. IsPlace word k b n)
 places_of_not word k b None e fits h = h
 places_of_not word k b (Some n) e fits h = subst (λ r. IsPlace word k r n) (sym e) (place_of_not word k n fits h)
 
--- Where the complement has no place that is set, the word has none that is clear.
+-- Where the complement has no position that is set, the word has none that is clear.
 pub no_place_of_not : (word k : ℕ) → word < 2 ^ 64 → HasNoPlace (18446744073709551615 - word) k true → HasNoPlace word k false
 no_place_of_not word k fits h = λ q le lt. sym (twice (is_set word q)) ∙ ap not (sym (set_of_not word q fits lt) ∙ h q le lt)
 

@@ -11,13 +11,13 @@ is_set word n = nat_eq (bit_at word n) 1
 abbrev pub is_taken : List ℕ → ℕ → Bool
 is_taken words n = is_set (slice_index words (n / 64)) (n % 64)
 
--- n is the least place of a word from k on whose bit is as wanted.
+-- n is the least position of a word from k on whose bit is as wanted.
 pub record IsPlace (word k : ℕ) (b : Bool) (n : ℕ) : Type 0 where
   pub found : is_set word n ≡ b
   pub low : n < 64
   pub reached : k ≤ n
   pub least : (q : ℕ) → k ≤ q → q < n → is_set word q ≡ not b
 
--- No place of a word from k on has a bit as wanted.
+-- No position of a word from k on has a bit as wanted.
 abbrev pub HasNoPlace : ℕ → ℕ → Bool → Type 0
 HasNoPlace word k b = (q : ℕ) → k ≤ q → q < 64 → is_set word q ≡ not b

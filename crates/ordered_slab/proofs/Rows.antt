@@ -15,7 +15,7 @@ none_row = record { ino = 0; key = 0 }
 
 -- Rows in two lists, one behind the other.
 module _ (xs ys : List OrderRowView) where
-  -- A row of the first list is at its place there.
+  -- A row of the first list is at its position there.
   left_at : (i : ℕ) → i < length xs → row_at (xs ++ ys) i ≡ row_at xs i
   left_at i l = get_or_append_left xs ys none_row i l
 
@@ -155,7 +155,7 @@ module _ (rows : List OrderRowView) (r : OrderRowView) where
 pub above_none : (rows : List OrderRowView) (last n k : ℕ) → AllUpTo last rows → last < n → HasRow rows n k → ⊥
 above_none rows last n k up above x = let o = up x.0 x.1 in omega (arith, o, above, ap (λ r. r.ino) x.2)
 
--- The row at the last place.
+-- The row at the last position.
 pub row_last : (front : List OrderRowView) (r : OrderRowView) → row_at (front ++ r ∷ []) (length front) ≡ r
 row_last front r = get_or_push front r none_row (length front) refl
 
@@ -200,7 +200,7 @@ module _ (packed rows : List OrderRowView) (read : ℕ) where
 pub last_unread : (rows front : List OrderRowView) (r : OrderRowView) (read : ℕ) → rows ≡ front ++ r ∷ [] → read < length rows → read ≤ length front
 last_unread rows front r read ends some = omega (arith, ap length ends ∙ length_push front r, some)
 
--- The last row is taken away.
+-- The last row is removed.
 module _ (packed rows front : List OrderRowView) (r : OrderRowView) (read : ℕ) (ends : rows ≡ front ++ r ∷ []) (unread : read ≤ length front) where
   -- It was the last of both lists.
   popped : packed ++ drop read rows ≡ (packed ++ drop read front) ++ r ∷ []

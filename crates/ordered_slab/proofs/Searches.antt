@@ -23,7 +23,7 @@ nowhere m n h = by (map.get m n) refl where
   by None e = e
   by (Some k) e = absurd (h k e)
 
--- A row that was read is the row at its place.
+-- A row that was read is the row at its position.
 pub read_here : (rows : List OrderRowView) (at : ℕ) (r : OrderRowView) → at < length rows → r ≡ get_or rows at r → r ≡ row_at rows at
 read_here rows at r l is = is ∙ get_or_default rows at r none_row l
 
@@ -61,7 +61,7 @@ module _ (rows : List OrderRowView) (rise : Rise rows) (n : ℕ) where
 -- The live numbers above n are behind the rows up to n and the dead ones after them.
 module _ (rows : List OrderRowView) (rise : Rise rows) (m : Map ℕ) (n from at : ℕ) (low : (i : ℕ) → i < from → (row_at rows i).ino ≤ n)
     (dead : (j q k : ℕ) → from ≤ j → j < at → row_at rows j ≡ record { ino = q; key = k } → map.get m q ≡ Some k → ⊥) where
-  -- A number above n has no live row if it is below that of the row at this place, or none is there.
+  -- A number above n has no live row if it is below the one at this position, or no row is there.
   pub passed : (q k : ℕ) → n < q → (at < length rows → q < (row_at rows at).ino) → map.get m q ≡ Some k → HasRow rows q k → ⊥
   passed q k above before live x = elim (cases_lt x.0 from) [
     | inl a ↦ let o = low x.0 a in omega (arith, o, above, ap (λ r. r.ino) x.2)

@@ -325,7 +325,7 @@ module _ {V : Type 0} (s t : Slab (NumberedValue V)) (f key : ℕ) (h : AreInPla
       by true e = absurd (none_some k (ap (λ b. cond b None (map.get (keys_of s) q)) (sym e) ∙ without_value (keys_of s) f q ∙ ap (λ m. map.get m q) went ∙ at))
       by false e = ap (λ b. cond b None (map.get (keys_of s) q)) (sym e) ∙ without_value (keys_of s) f q ∙ ap (λ m. map.get m q) went ∙ at
 
--- Nothing to take away.
+-- Nothing is removed.
 pub take_nothing : {V : Type 0} (m : Map ℕ) (s : Slab (NumberedValue V)) (f : ℕ) → map.get m f ≡ None → values_of m s ≡ map.remove (values_of m s) f
 take_nothing m s f none = same _ _ (λ q. by q (nat_eq f q) refl ∙ without_value (values_of m s) f q) where
   by : (q : ℕ) (b : Bool) → nat_eq f q ≡ b → map.get (values_of m s) q ≡ cond b None (map.get (values_of m s) q)

@@ -4,7 +4,7 @@ use Rattle.std.specs.FinMap as map
 use Rattle.af_base.specs.World.{Map}
 use Rattle.ordered_slab.specs.OrderView.{OrderRowView}
 
--- The row at a place, and that of no number past the end.
+-- The row at a position, and that of no number past the end.
 abbrev pub row_at : List OrderRowView → ℕ → OrderRowView
 row_at rows i = slice_index_or rows i (record { ino = 0; key = 0 })
 

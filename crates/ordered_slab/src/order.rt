@@ -1,7 +1,7 @@
 //! The order of numbers that only rise.
 //!
 //! A removal leaves the number's row, dead. A packing reads `rows` from the front, and copies each
-//! live row to the end of `packed`. When all was read, the two lists change places. So the rows are
+//! live row to the end of `packed`. When all was read, the two lists are swapped. So the rows are
 //! those of `packed` and the part of `rows` that was not read.
 ghost use Rattle.std.specs.Prelude.{◌≡◌, ℕ, ◌+◌, ◌^◌, ◌≤◌, ◌<◌, ◌++◌, ◌∷◌, [], length, true};
 ghost use Rattle.std.specs.Prelude.{Some, IsTrue, IsSome, IfSome, IfNone, IsOk, OnOk, None};
@@ -114,8 +114,8 @@ impl Order {
         self.last = Snapshot::of(&ino);
     }
 
-    /// Takes the last row away if it is of this number, whose value was removed, and the one before
-    /// it, if it is dead. So files that come and go in turn leave no rows.
+    /// Removes the last row if it is of this number, whose value was removed, and the one before
+    /// it, if that is dead. So numbers that come and go in turn leave no rows.
     #[inline(always)]
     pub fn trim<T>(&mut self, slab: &Slab<NumberedValue<T>>, file: &FileRef)
         requires place { AreInPlace (keys_of slab.now) slab.now }
@@ -130,7 +130,7 @@ impl Order {
         }
     }
 
-    /// Takes the last row away, if it is dead and no packing has read it.
+    /// Removes the last row, if it is dead and no packing has read it.
     #[inline(always)]
     fn pop_dead<T>(&mut self, slab: &Slab<NumberedValue<T>>)
         requires place { AreInPlace (keys_of slab.now) slab.now }

@@ -8,7 +8,7 @@ use Rattle.af_collect.proofs.LossOutcomes.{burden, burden-gone}
 use Rattle.af_collect.specs.declared.progress.PassProgress.{PassProgress}
 use Rattle.af_collect.proofs.collector.Collector.release.Goals as goal
 
--- A file that holds nothing can be taken away.
+-- A file that holds nothing can be freed.
 pub free_bare-requires-clause-bare : goal.free_bare-requires-clause-bare
 free_bare-requires-clause-bare c = none-held c.loop-file.self.holdings.world c.in-Some.file (c.is_bare.ensures.none c.if-is_bare.true)
 
@@ -57,6 +57,6 @@ loop-file-preserved c =
       progress = d.progress ∙ i.progress ∙ ap (λ r. record c.args.self.now.progress { reclaimed = r }) (sym (ap (λ (o : PassProgress). o.reclaimed) d.progress));
     }
 
--- Nothing is left to go.
+-- Nothing is left to be freed.
 pub returns-clause-settles : goal.returns-clause-settles
 returns-clause-settles c = c.loop-file.invariant.settles c.loop-file.self.holdings.world (settles_none c.loop-file.self.holdings.world c.in_default.ensures.none.settled)
