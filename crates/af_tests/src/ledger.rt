@@ -3,12 +3,12 @@
 use af_base::ids::Uid;
 use af_ledger::Ledger;
 
-/// Whether a user can be had, at a second trial where the first was refused.
+/// Adds a user, at a second trial where the first was refused. Returns whether it was added.
 fn has_a_user(ledger: &mut Ledger, user: Uid) -> bool {
     ledger.add_user(user).is_ok() || ledger.add_user(user).is_ok()
 }
 
-/// Whether the user can be had so, and no other is there then.
+/// Adds the user so. Returns whether it was added, and no other is there.
 fn has_just(ledger: &mut Ledger, user: Uid) -> bool {
     has_a_user(ledger, user) && ledger.user_at(0) == Some(user) && ledger.user_at(1).is_none()
 }

@@ -6,7 +6,7 @@ use af_ledger::Place;
 use std::alloc::AllocError;
 use std::process::Abort;
 
-/// A plain file more.
+/// Makes a plain file.
 fn file(rt: &impl Abort, files: &mut Files) -> Result<FileRef, AllocError> {
     assert!(rt; !files.is_full(1));
     files.make_plain(&Place::Table)

@@ -43,7 +43,7 @@ impl Write for Small {
     }
 }
 
-/// How many bytes were read or written, or the kind of the error.
+/// Returns how many bytes were read or written, or the kind of the error.
 fn kind_or_count(answer: io::Result<usize>) -> Result<usize, ErrorKind> {
     match answer {
         Ok(count) => Ok(count),

@@ -11,7 +11,7 @@ use std::process::Abort;
 use std::sync::Wait;
 use std::thread::Threads;
 
-/// A process starts.
+/// Returns the event that starts a process.
 pub fn spawn() -> Event {
     Event::Spawn {
         uid: Uid(1_000),
@@ -20,7 +20,7 @@ pub fn spawn() -> Event {
     }
 }
 
-/// A step of the process.
+/// Returns a step of the process as an event.
 pub fn step(pid: u32, step: Step) -> Event {
     Event::Proc(Pid(pid), step)
 }

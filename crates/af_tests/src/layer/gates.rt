@@ -24,7 +24,7 @@ struct Flags {
     failures: AtomicU64,
 }
 
-/// Whether the flags of all seats are up.
+/// Returns whether the flags of all seats are up.
 fn are_up(flags: &AtomicU64) -> bool {
     flags.load(Ordering::SeqCst) == ALL
 }
@@ -71,7 +71,7 @@ impl Flags {
         }
     }
 
-    /// Whether each seat made its four calls, and nothing failed.
+    /// Returns whether each seat made its four calls, and nothing failed.
     fn is_passed(&self) -> bool {
         are_up(&self.came)
             && are_up(&self.left)
@@ -209,7 +209,7 @@ impl Script for Starts {
     }
 }
 
-/// Whether the process of this pid was started by the first call from this seat.
+/// Returns whether the process of this pid was started by the first call from this seat.
 fn has_started(seat: &Seat, pid: u32) -> bool {
     match seat.list().first() {
         Some(pair) => *pair.reply() == Reply::Pid(Pid(pid)),
@@ -217,7 +217,7 @@ fn has_started(seat: &Seat, pid: u32) -> bool {
     }
 }
 
-/// Whether the first seat's call came before those of the second.
+/// Returns whether the first seat's call came before those of the second.
 fn are_in_turn(seats: &[Seat]) -> bool {
     seats.len() == 2 && has_started(&seats[0], 1) && has_started(&seats[1], 2)
 }

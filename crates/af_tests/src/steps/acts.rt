@@ -86,7 +86,7 @@ fn peek(on: u32) -> Step {
     }
 }
 
-/// The event in full.
+/// Returns the event in full.
 pub fn event_of(alloc: Global, act: Act) -> Result<Event, AllocError> {
     let step = match act {
         Act::Spawn(uid) => {
@@ -129,7 +129,7 @@ pub fn event_of(alloc: Global, act: Act) -> Result<Event, AllocError> {
     Ok(Event::Proc(Pid(1), step))
 }
 
-/// The reply in full.
+/// Returns the reply in full.
 pub fn reply_of(alloc: Global, answer: Answer) -> Result<Reply, AllocError> {
     Ok(match answer {
         Answer::Pid(pid) => Reply::Pid(Pid(pid)),

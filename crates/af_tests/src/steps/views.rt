@@ -23,12 +23,12 @@ static ROWS: [(Act, Answer); 12] = [
     (Act::Send(2, b"a", &[2, 2]), Answer::Sent(1)),
 ];
 
-/// How many places hold the file, and how many of these are in queues.
+/// Returns how many places hold the file, and how many of these are in queues.
 pub fn counts(engine: &Engine, ino: u64) -> (u64, u64) {
     (engine.refs(Ino(ino)), engine.inflight(Ino(ino)))
 }
 
-/// How many messages and embryos wait at the file.
+/// Returns how many messages and embryos wait at the file.
 pub fn queue_lengths(engine: &Engine, ino: u64) -> (u64, u64) {
     match engine.file(Ino(ino)) {
         Some(
@@ -42,7 +42,7 @@ pub fn queue_lengths(engine: &Engine, ino: u64) -> (u64, u64) {
     }
 }
 
-/// Whether the file is a stream of this state.
+/// Returns whether the file is a stream of this state.
 fn is_stream(engine: &Engine, ino: u64, wanted: State) -> bool {
     match engine.file(Ino(ino)) {
         Some(FileInfo::Socket { kind, state, .. }) => kind == SockType::Stream && state == wanted,
@@ -50,14 +50,14 @@ fn is_stream(engine: &Engine, ino: u64, wanted: State) -> bool {
     }
 }
 
-/// Whether no file has the number.
+/// Returns whether no file has the number.
 fn is_stranger(engine: &Engine, ino: u64) -> bool {
     engine.file(Ino(ino)).is_none()
         && engine.name(Ino(ino)).is_none()
         && counts(engine, ino) == (0, 0)
 }
 
-/// Whether the engine shows that nothing happened to it.
+/// Returns whether the engine shows that nothing happened to it.
 fn shows_nothing(engine: &Engine) -> bool {
     is_stranger(engine, 1)
         && engine.live() == 0
@@ -67,7 +67,7 @@ fn shows_nothing(engine: &Engine) -> bool {
         && engine.total() == 0
 }
 
-/// Whether it shows the files that the rows leave.
+/// Returns whether it shows the files that the rows leave.
 fn shows_files(engine: &Engine) -> bool {
     is_stranger(engine, 1)
         && is_stranger(engine, 7)
