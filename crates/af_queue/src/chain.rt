@@ -21,7 +21,7 @@ pub struct Chain {
 }
 
 impl Chain {
-    /// Makes the chain of an empty queue, of any file.
+    /// Makes the chain of an empty queue.
     pub fn empty() -> Chain
         ensures { result.len ≡ 0 }
     {
