@@ -89,8 +89,7 @@ impl Engine {
         })
     }
 
-    /// Runs a whole pass: frees all garbage, and the files that only garbage held. Refused with
-    /// EBUSY while a pass runs.
+    /// Runs a whole pass, which frees all garbage. Refused with EBUSY while a pass runs.
     pub fn pass(&mut self) -> Result<Finished, Errno>
         ensures done { IfOk result (λ finished.
             PassesWhole self.old.pass self.old (finished_reply finished) self.new) }

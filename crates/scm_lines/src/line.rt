@@ -16,7 +16,7 @@ pub const MAX_LINE: usize = 262_144;
 /// A report about the state at a line. It is no event, and changes nothing.
 #[derive(Clone, Copy)]
 pub enum Report {
-    /// Each live file: its counts, its kind and state, its peer and its name.
+    /// Each live file: its counts, kind and state, how much waits at it, its peer and its name.
     Table,
     /// How many descriptors of each user are in flight.
     Totals,
