@@ -25,7 +25,7 @@ returns-in_default-clause-unchanged c = λ _. seen-unopened c.self.inside.collec
 pub drop_and_free-requires : goal.drop_and_free-requires
 drop_and_free-requires c = counted-closed c.self.inside.collector c.holdings.inside (stood c.self.inside.collector c.holdings.inside c.holdings.view_is c.holdings.invariant c.self.invariant) c.args.pid c.args.fd c.in-Some.file (sym c.take_out.ensures.value ∙ c.in-Some.is)
 
--- The invariants hold with these files, and as many are left to be freed as before.
+-- The invariants hold with these files, and what is left to be freed is the same as before.
 abbrev Serves : goal.After-drop_and_free → FilesView → Type 0
 Serves c fs = BothInvariants c.self.inside.collector c.take_out.new.self fs c.holdings.inside.ledger
     × ((end : World) → Settles (world_of c.take_out.new.self fs c.holdings.inside.ledger) end → Settles (uninstall (the_view c.holdings.inside).world c.args.pid c.args.fd) end)
