@@ -306,8 +306,8 @@ impl Engine {
         self.handle.begin().map(|(_, pass)| pass)
     }
 
-    /// Continues the pass by at most this many files, 1 to [`MAX_BUDGET`](crate::MAX_BUDGET).
-    /// Returns `None` while the pass runs.
+    /// Continues the pass by at most this many units, 1 to [`MAX_BUDGET`](crate::MAX_BUDGET); a unit
+    /// visits, scans or sweeps one file. Returns `None` while the pass runs.
     ///
     /// ```
     /// use jaywardrobe::{Engine, Errno, SockType};
