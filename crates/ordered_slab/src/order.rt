@@ -186,7 +186,36 @@ impl Order {
         {
             return Some((row.file().duplicate(), at + 1));
         }
-        self.search_next(slab, ino, at)
+        match self.next_but_one(slab, ino, at) {
+            Some(next) => Some(next),
+            None => self.search_next(slab, ino, at),
+        }
+    }
+
+    /// Returns the answer of `next_after` where the row at this position is of the next number and
+    /// dead, and the row behind it live: two sockets of a pair are often freed together.
+    #[inline(always)]
+    fn next_but_one<T>(
+        &self,
+        slab: &Slab<NumberedValue<T>>,
+        ino: Ino,
+        at: usize,
+    ) -> Option<(FileRef, usize)>
+        requires place { AreInPlace (keys_of slab.now) slab.now }
+        requires listed { AreListed self.now.rows (keys_of slab.now) }
+        ensures above { IfSome result (λ n. ino < n.0) }
+        ensures there { IfSome result (λ n. IsTrue (map.contains_key (keys_of slab.now) n.0)) }
+        ensures least { IfSome result (λ n.
+            (q : ℕ) → ino < q → q < n.0 → map.get (keys_of slab.now) q ≡ None) }
+    {
+        if self.read > 0 || self.rows.len() < 2 || at > self.rows.len() - 2 {
+            return None;
+        }
+        let (dead, next) = (&self.rows[at], &self.rows[at + 1]);
+        if dead.number().0 - 1 != ino.0 || is_live(slab, dead) || !is_live(slab, next) {
+            return None;
+        }
+        Some((next.file().duplicate(), at + 2))
     }
 
     /// Returns the first row above this number, if it is at this position.
