@@ -87,7 +87,7 @@ impl Files {
         ensures some { IfSome result (λ f. is_unreferenced self.now.counts f ≡ true) }
         ensures none { IfNone result ((f : ℕ) → is_unreferenced self.now.counts f ≡ false) }
     {
-        let file = self.unreferenced.last()?;
+        let file = self.unreferenced.first()?;
         Some(file.duplicate())
     }
 
