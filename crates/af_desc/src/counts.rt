@@ -87,6 +87,7 @@ impl Files {
         ensures some { IfSome result (λ f. is_unreferenced self.now.counts f ≡ true) }
         ensures none { IfNone result ((f : ℕ) → is_unreferenced self.now.counts f ≡ false) }
     {
+        // The first stays first until it is freed: so a release empties one file before the next.
         let file = self.unreferenced.first()?;
         Some(file.duplicate())
     }

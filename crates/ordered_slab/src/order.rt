@@ -22,11 +22,8 @@ use std::snapshot::Snapshot;
 /// Packing begins if half of all rows are over this many more than the live ones.
 const LEAST_DEAD: usize = 32;
 
-/// At most this many dead rows are passed over in one step of packing.
-const PASSED_AT_ONCE: usize = 16;
-
-/// How many steps of packing a new number pays for: more than one, so that packing comes to an end.
-const PACKED_AT_ONCE: usize = 4;
+/// How many rows a packing reads for each new number: more than one, so that it comes to an end.
+const PACKED_AT_ONCE: usize = 16;
 
 /// Numbers in order, each with its key. A number whose value is removed leaves a dead row; the live
 /// ones are packed a few at a time, so that each event has a bounded cost.
@@ -259,8 +256,8 @@ impl Order {
         Some((file, at.saturating_add(self.read)))
     }
 
-    /// Performs some steps of packing, if one is due: dead rows leave, and each step copies at most
-    /// one row. Takes no memory.
+    /// Reads some rows for a packing, if one is due: dead rows leave, live ones stay. Takes no
+    /// memory.
     #[inline(always)]
     pub fn pack<T>(&mut self, slab: &Slab<NumberedValue<T>>)
         requires place { AreInPlace (keys_of slab.now) slab.now }
@@ -273,7 +270,7 @@ impl Order {
         }
     }
 
-    /// Performs some steps of packing.
+    /// Begins a packing, or goes on with it.
     #[inline(never)]
     fn pack_some<T>(&mut self, slab: &Slab<NumberedValue<T>>)
         requires place { AreInPlace (keys_of slab.now) slab.now }
@@ -285,8 +282,7 @@ impl Order {
             if self.finish() {
                 return;
             }
-            self.pass(slab);
-            self.step();
+            self.pack_row(slab);
         }
     }
 
@@ -305,22 +301,24 @@ impl Order {
         true
     }
 
-    /// Passes a few dead rows at most.
-    fn pass<T>(&mut self, slab: &Slab<NumberedValue<T>>)
+    /// Reads one row more, if there is one: passes over a dead one, and copies a live one.
+    #[inline(always)]
+    fn pack_row<T>(&mut self, slab: &Slab<NumberedValue<T>>)
         requires place { AreInPlace (keys_of slab.now) slab.now }
         ensures kept { KeepsLive (keys_of slab.now) self.old.rows self.new.rows }
         ensures last { self.new.last ≡ self.old.last }
         ensures room { self.old.room ≤ self.new.room }
     {
-        let end = self
-            .rows
-            .len()
-            .min(self.read.saturating_add(PASSED_AT_ONCE));
-        self.read = first_live(slab, &self.rows, self.read, end);
+        if self.read < self.rows.len() && !is_live(slab, &self.rows[self.read]) {
+            self.read += 1;
+            return;
+        }
+        self.copy_row();
     }
 
     /// Copies the first row that was not read, if there is one, to the end of `packed`.
-    fn step(&mut self)
+    #[inline(always)]
+    fn copy_row(&mut self)
         ensures rows { self.new.rows ≡ self.old.rows }
         ensures last { self.new.last ≡ self.old.last }
         ensures room { self.old.room ≤ self.new.room }

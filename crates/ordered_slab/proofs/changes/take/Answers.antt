@@ -1,5 +1,4 @@
-use Rattle.std.proofs.Common.{◌≡◌, sym, ap, ◌∙◌}
-use Rattle.std.specs.FinMap as map
+use Rattle.std.proofs.Common.{sym, ◌∙◌}
 use Rattle.ordered_slab.proofs.SlabValues.{went_had, went_none, went_place, went_values}
 use Rattle.ordered_slab.proofs.changes.take.Goals as goal
 

@@ -1,11 +1,11 @@
-use Rattle.std.proofs.Common.{rules, ◌≡◌, ◌≤◌, sym, ap, subst, ◌∙◌}
+use Rattle.std.proofs.Common.{rules, ◌≤◌, sym, ap, subst, ◌∙◌}
 use Rattle.std.specs.Prelude.{Some}
 use Rattle.std.specs.FinMap as map
 use Rattle.std.proofs.lemmas.Bool.{false≢true}
 use Rattle.std.proofs.lemmas.List.Sorted.{answers_always}
 use Rattle.af_base.specs.declared.limits.TheConstants.{MAX_INO}
 use Rattle.ordered_slab.specs.OrderView.{OrderRowView}
-use Rattle.ordered_slab.specs.Rows.{row_at, HasRow}
+use Rattle.ordered_slab.specs.Rows.{HasRow}
 use Rattle.ordered_slab.specs.SlabValues.{keys_of}
 use Rattle.ordered_slab.proofs.Searches.{found, missed, only, read_here}
 use Rattle.ordered_slab.proofs.order.key_in.Goals as goal

@@ -1,5 +1,4 @@
-use Rattle.std.proofs.Common.{rules, ◌≡◌, ◌<◌, ℕ, length, ◌∙◌, sym, ap, subst, arith}
-use Rattle.std.specs.Prelude.{Some}
+use Rattle.std.proofs.Common.{◌≡◌, ◌<◌, length, ◌∙◌, sym, ap, subst, arith}
 use Rattle.std.specs.FinMap as map
 use Rattle.ordered_slab.specs.Rows.{row_at}
 use Rattle.ordered_slab.specs.SlabValues.{keys_of}

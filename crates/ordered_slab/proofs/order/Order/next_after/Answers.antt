@@ -1,4 +1,4 @@
-use Rattle.std.proofs.Common.{◌≡◌, ◌≤◌, ℕ, ap, sym, subst, ◌∙◌, arith}
+use Rattle.std.proofs.Common.{◌∙◌, arith}
 use Rattle.ordered_slab.specs.SlabValues.{keys_of}
 use Rattle.ordered_slab.proofs.Searches.{nowhere}
 use Rattle.ordered_slab.proofs.order.Order.next_after.Goals as goal

@@ -1,7 +1,6 @@
-use Rattle.std.proofs.Common.{◌≡◌, ◌<◌, ℕ, inl, inr, drop, sym, ap, subst, ◌∙◌, arith}
+use Rattle.std.proofs.Common.{inl, inr, drop, sym, ap, subst, ◌∙◌, arith}
 use Rattle.std.specs.Prelude.{Option, Some, None, IfNone}
-use Rattle.std.specs.FinMap as map
-use Rattle.ordered_slab.specs.Rows.{row_at, Rise, HasRow}
+use Rattle.ordered_slab.specs.Rows.{Rise, HasRow}
 use Rattle.ordered_slab.specs.SlabValues.{keys_of}
 use Rattle.ordered_slab.proofs.Rows.{in_either, rest, rise_across, rise_left, rise_right}
 use Rattle.ordered_slab.proofs.Searches.{nowhere}

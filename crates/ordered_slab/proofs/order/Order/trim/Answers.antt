@@ -1,10 +1,8 @@
-use Rattle.std.proofs.Common.{rules, ◌≡◌, ◌≤◌, ◌<◌, ◌+◌, ◌-◌, ◌++◌, ◌∙◌, drop, length, sym, ap, subst, arith}
-use Rattle.std.specs.Prelude.{Some}
+use Rattle.std.proofs.Common.{rules, ◌≡◌, ◌-◌, ◌++◌, ◌∙◌, drop, length, sym, ap, subst, arith}
 use Rattle.std.specs.FinMap as map
 use Rattle.std.proofs.lemmas.Bool.{eqb-true}
 use Rattle.std.proofs.lemmas.List.{length_push}
 use Rattle.af_base.proofs.Lookups.{none_some}
-use Rattle.ordered_slab.specs.OrderView.{OrderRowView}
 use Rattle.ordered_slab.specs.Rows.{row_at, HasRow, KeepsLive}
 use Rattle.ordered_slab.specs.SlabValues.{keys_of}
 use Rattle.ordered_slab.proofs.Rows.{last_unread, pop_kept, pop_rise, pop_up, row_last}
