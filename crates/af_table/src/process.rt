@@ -1,6 +1,6 @@
 //! A process with its table.
 ghost use Rattle.std.specs.Prelude.{◌≡◌, ℕ, ◌+◌, ◌≤◌, ◌<◌, [], ◌∷◌, length, slice_get, IfSome};
-ghost use Rattle.std.specs.Prelude.{IsTrue, IfNone, IfOk, OnOk, OnErr, IsOk, false};
+ghost use Rattle.std.specs.Prelude.{IsTrue, IfNone, IfOk, OnOk, OnErr, IsOk, None, false};
 ghost use Rattle.std.specs.FinMap as map;
 ghost use Rattle.af_base.specs.Changes.{installed, limited, taken_out};
 ghost use Rattle.af_base.specs.Table.{free_numbers, lowest_free};
@@ -296,6 +296,7 @@ impl Process {
     pub fn run_from(&self, fd: Fd) -> &[FileRef]
         ensures open { (i : ℕ) → i < length result.now
             → map.get self.now.process.table (fd + i) ≡ slice_get result.now i }
+        ensures ends { map.get self.now.process.table (fd + length result.now) ≡ None }
         ensures some { IsTrue (map.contains_key self.now.process.table fd) → 0 < length result.now }
         ensures low { fd ≤ MAX_NOFILE → fd + length result.now ≤ MAX_NOFILE }
     {

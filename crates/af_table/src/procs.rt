@@ -250,6 +250,7 @@ impl Procs {
         ensures ok { OnOk result
             (0 < count → (process_in self.old.processes pid).limit ≤ row_in self.new.rows pid) }
         ensures rows { (q : ℕ) → row_in self.old.rows q ≤ row_in self.new.rows q }
+        ensures others { (q : ℕ) → q ≢ pid → row_in self.new.rows q ≡ row_in self.old.rows q }
         ensures err { OnErr result (self.new.rows ≡ self.old.rows) }
         ensures none { count ≡ 0 → IsOk result }
         ensures unchanged { count ≡ 0 → self.new.rows ≡ self.old.rows }
