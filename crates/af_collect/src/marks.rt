@@ -2,7 +2,7 @@
 ghost use Rattle.std.specs.Prelude.{◌≡◌, ℕ, IfSome, IfNone, false, true};
 ghost use Rattle.af_base.specs.Counts.{tabled};
 ghost use Rattle.af_base.specs.Places.{held_by};
-ghost use Rattle.af_mark.specs.MarksView.{blackened, is_grey, is_marked, knows};
+ghost use Rattle.af_mark.specs.MarksView.{blackened, is_grey, is_marked, is_unmarked, knows};
 ghost use Rattle.af_mark.specs.MarksView.{shaded, visited};
 ghost use Rattle.af_collect.specs.Keeping.{after_visit, is_due, shaded_all};
 
@@ -22,8 +22,10 @@ impl Holdings {
         self.files.start_epoch();
     }
 
-    /// Ends a pass: no file is marked.
+    /// Ends a pass: no file is marked, and none is to be marked.
     pub(crate) fn end_pass(&mut self)
+        ensures unmarked { (f : ℕ) → is_marked self.new.marks f ≡ false }
+        ensures none_due { (f : ℕ) → is_unmarked self.new.marks f ≡ false }
         ensures known { (f : ℕ) → knows self.new.marks f ≡ knows self.old.marks f }
         ensures rest { self.new ≡ record self.old { marks = self.new.marks } }
     {

@@ -38,6 +38,7 @@ impl Files {
     /// Ends a pass: no file is marked, and none is to be marked.
     pub fn end_pass(&mut self)
         ensures unmarked { (f : ℕ) → is_marked self.new.marks f ≡ false }
+        ensures none_due { (f : ℕ) → is_unmarked self.new.marks f ≡ false }
         ensures known { (f : ℕ) → knows self.new.marks f ≡ knows self.old.marks f }
         ensures rest { self.new ≡ record self.old { marks = self.new.marks } }
     {
