@@ -80,6 +80,8 @@ impl FileRow {
         ensures nameless { result ≡ true → name_of (file_in nodes.now self.now) ≡ None }
         ensures silent { result ≡ true → queue_of (file_in nodes.now self.now) ≡ [] }
         ensures bare { result ≡ true → contents (file_in nodes.now self.now) ≡ [] }
+        ensures found { name_of (file_in nodes.now self.now) ≡ None
+            → queue_of (file_in nodes.now self.now) ≡ [] → result ≡ true }
     {
         match self.socket(nodes) {
             Some(socket) => socket.is_nameless() && socket.queue().len() == 0,

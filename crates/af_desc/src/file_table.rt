@@ -401,6 +401,8 @@ impl FileTable {
         ensures nameless { result ≡ Some true → name_in self.old.files file.now ≡ None }
         ensures silent { result ≡ Some true → queue_in self.old.files file.now ≡ [] }
         ensures bare { result ≡ Some true → held_in self.old.files file.now ≡ [] }
+        ensures found { IfSome result (λ bare. name_in self.old.files file.now ≡ None
+            → queue_in self.old.files file.now ≡ [] → bare ≡ true) }
     {
         let row = self.rows.get_mut(file).unwrap();
         row.count.sub(&Place::Table);

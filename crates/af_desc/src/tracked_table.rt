@@ -417,6 +417,8 @@ impl TrackedTable {
         ensures nameless { result ≡ Some true → name_in self.old.files file.now ≡ None }
         ensures silent { result ≡ Some true → queue_in self.old.files file.now ≡ [] }
         ensures bare { result ≡ Some true → held_in self.old.files file.now ≡ [] }
+        ensures found { IfSome result (λ bare. name_in self.old.files file.now ≡ None
+            → queue_in self.old.files file.now ≡ [] → bare ≡ true) }
     {
         self.table.sub_descriptor(file)
     }
