@@ -80,7 +80,8 @@ impl Process {
     /// files of another process, is used for its slots; they end behind its last open one.
     #[tactic(auto, using(crate::proofs::Tables::table_cuts))]
     pub(crate) fn copy(&self, row: Vec<FileRef>) -> Result<Process, AllocError>
-        ensures { IfOk result (λ p. p.process ≡ self.now.process) }
+        ensures process { IfOk result (λ p. p.process ≡ self.now.process) }
+        ensures row { IfOk result (λ p. p.row ≤ self.now.row) }
     {
         let end = self.taken.end_below(self.slots.len() as u32);
         let used = self.slots.len().min(end as usize);

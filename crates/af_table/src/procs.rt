@@ -228,6 +228,8 @@ impl Procs {
             (process_in self.old.processes pid)) }
         ensures rows { OnOk result ((q : ℕ) → q ≢ self.old.next_pid
             → row_in self.new.rows q ≡ row_in self.old.rows q) }
+        ensures row { IfOk result (λ child.
+            row_in self.new.rows child ≤ row_in self.old.rows pid) }
         ensures room { self.old.room ≤ self.new.room + 1 }
         ensures err { OnErr result (self.new ≡ record self.old { room = self.new.room }) }
     {
