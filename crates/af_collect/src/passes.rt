@@ -1,10 +1,10 @@
 //! A pass of the collector: it begins, proceeds by slices, and is done; or runs whole.
-ghost use Rattle.std.specs.Prelude.{◌≡◌, ◌≤◌, ◌+◌, ℕ, false, true};
+ghost use Rattle.std.specs.Prelude.{◌≡◌, ◌≤◌, ◌+◌, ℕ, IfSome, false, true};
 ghost use Rattle.af_base.specs.World.{World};
 ghost use Rattle.af_base.specs.Pass.{Idle, Running, Slices};
 ghost use Rattle.af_base.specs.Unheld.{Settles};
 ghost use Rattle.af_base.specs.Whole.{IsSound};
-ghost use Rattle.af_mark.specs.MarksView.{is_marked};
+ghost use Rattle.af_mark.specs.MarksView.{is_marked, is_unmarked};
 ghost use Rattle.af_collect.specs.Keeping.{PassInvariant, runs};
 ghost use Rattle.af_collect.specs.Collecting.{Collects};
 ghost use Rattle.af_collect.specs.StoreView.{slice_reply};
@@ -66,6 +66,7 @@ impl Store {
         ensures since { self.new.since ≡ self.old.since }
         ensures looked { self.new.progress.looked ≤ self.old.progress.looked + budget }
         ensures rises { self.old.progress.looked ≤ self.new.progress.looked }
+        ensures none_due { IfSome result (λ _. (f : ℕ) → is_unmarked self.new.marks f ≡ false) }
     {
         if !self.collector.do_units(budget) {
             return None;
@@ -83,6 +84,7 @@ impl Store {
         ensures sound { IsSound self.new.world }
         ensures since { self.new.since ≡ self.old.since }
         ensures pass { self.new.pass ≡ Idle }
+        ensures none_due { (f : ℕ) → is_unmarked self.new.marks f ≡ false }
     {
         self.collector.begin();
         while !self.collector.do_units(MAX_BUDGET) {}
