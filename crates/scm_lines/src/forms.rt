@@ -2,7 +2,7 @@
 //!
 //! A form that has words is a function that reads its row, and answers nothing where the words do
 //! not fit. [`step`] and [`line`] make a fault of that.
-ghost use Rattle.std.specs.Prelude.{◌≡◌, IfErr, IfOk, None, Some};
+ghost use Rattle.std.specs.Prelude.{◌≡◌, IfErr, IfOk, None, Some, true};
 ghost use Rattle.af_base.specs.declared.events.Event.TheVariants as event;
 ghost use Rattle.af_base.specs.declared.events.Step.TheVariants as step;
 ghost use Rattle.std.specs.Option.{option_map};
@@ -11,7 +11,7 @@ ghost use Rattle.scm_lines.specs.Words.{word_in, words_of};
 ghost use Rattle.scm_lines.specs.Keywords.{privilege_of};
 ghost use Rattle.scm_lines.specs.Forms.{line_row, name, number, read_form, sockets, step_row, two};
 ghost use Rattle.scm_lines.specs.Forms.{value_in, value_of};
-ghost use Rattle.scm_lines.specs.Lines.{form_of, step_of};
+ghost use Rattle.scm_lines.specs.Lines.{form_of, step_of, step_takes_memory, takes_memory};
 ghost use Rattle.scm_lines.specs.declared.fault.LineFault.TheVariants as fault;
 ghost use Rattle.scm_lines.specs.declared.keywords.Keyword.TheVariants as keyword;
 ghost use Rattle.scm_lines.specs.declared.keywords.Verb.TheVariants as verb;
@@ -262,7 +262,9 @@ fn peek_step(rest: &[u8]) -> Option<Step>
 
 /// Reads the step of this verb.
 fn step(alloc: Global, verb: Verb, rest: &[u8]) -> Result<Step, LineFault>
-    ensures { Reads (read_form (step_row verb).1 (words_of rest.now)) result }
+    ensures read { Reads (read_form (step_row verb).1 (words_of rest.now)) result }
+    ensures memory { IfErr result
+        (λ f. f ≡ fault.Memory → takes_memory (Some verb) ≡ true) }
 {
     let read = match verb {
         Verb::Open => is_end(rest).then_some(Step::Open),
@@ -288,7 +290,9 @@ fn step(alloc: Global, verb: Verb, rest: &[u8]) -> Result<Step, LineFault>
 /// Reads the step of a process.
 #[tactic(auto, unfolding(crate::specs::Lines::step_of))]
 fn process(alloc: Global, bytes: &[u8]) -> Result<Step, LineFault>
-    ensures { Reads (step_of (words_of bytes.now)) result }
+    ensures read { Reads (step_of (words_of bytes.now)) result }
+    ensures memory { IfErr result
+        (λ f. f ≡ fault.Memory → step_takes_memory (words_of bytes.now) ≡ true) }
 {
     let (word, rest) = first_word(bytes).ok_or(LineFault::Unreadable)?;
     let verb = verb_named(word).ok_or(LineFault::Unreadable)?;
@@ -341,7 +345,8 @@ fn version(rest: &[u8]) -> Option<Line>
 
 /// Reads a line that begins with this keyword.
 fn line(keyword: Keyword, rest: &[u8]) -> Result<Line, LineFault>
-    ensures { Reads (read_form (line_row keyword).1 (words_of rest.now)) result }
+    ensures read { Reads (read_form (line_row keyword).1 (words_of rest.now)) result }
+    ensures no_memory { IfErr result (λ f. f ≡ fault.Unreadable) }
 {
     let read = match keyword {
         Keyword::Spawn => spawn_line(rest),
@@ -359,7 +364,9 @@ fn line(keyword: Keyword, rest: &[u8]) -> Result<Line, LineFault>
 /// Reads a line that begins with this word.
 #[tactic(auto, unfolding(crate::specs::Lines::form_of))]
 pub(crate) fn form(alloc: Global, word: &[u8], rest: &[u8]) -> Result<Line, LineFault>
-    ensures { Reads (form_of word.now (words_of rest.now)) result }
+    ensures read { Reads (form_of word.now (words_of rest.now)) result }
+    ensures memory { IfErr result
+        (λ f. f ≡ fault.Memory → step_takes_memory (words_of rest.now) ≡ true) }
 {
     // Most lines begin with a process's number, so that is tried first.
     if let Some(pid) = number(word) {

@@ -1,8 +1,9 @@
 //! One line of a script.
-ghost use Rattle.std.specs.Prelude.{◌≡◌};
+ghost use Rattle.std.specs.Prelude.{◌≡◌, IfErr, true};
 ghost use Rattle.scm_lines.specs.Fault.{Reads};
-ghost use Rattle.scm_lines.specs.Lines.{line_of};
-ghost use Rattle.scm_lines.specs.Words.{begins_comment};
+ghost use Rattle.scm_lines.specs.Lines.{line_of, line_takes_memory};
+ghost use Rattle.scm_lines.specs.Words.{begins_comment, words_of};
+ghost use Rattle.scm_lines.specs.declared.fault.LineFault.TheVariants as fault;
 
 use crate::fault::LineFault;
 use crate::forms::form;
@@ -53,7 +54,9 @@ pub fn begins_comment(word: &[u8]) -> bool
 /// `connect`, for a name; if it is refused, the answer is [`LineFault::Memory`].
 #[tactic(auto, using(crate::proofs::LineLemmas::line_by_words))]
 pub fn line_of(alloc: Global, bytes: &[u8]) -> Result<Line, LineFault>
-    ensures { Reads (line_of bytes.now) result }
+    ensures read { Reads (line_of bytes.now) result }
+    ensures memory { IfErr result
+        (λ f. f ≡ fault.Memory → line_takes_memory (words_of bytes.now) ≡ true) }
 {
     if bytes.len() > MAX_LINE {
         return Err(LineFault::Unreadable);

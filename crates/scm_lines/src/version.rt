@@ -2,15 +2,17 @@
 //!
 //! A script is of version 2 where its first line that is not silent is `version 2`. Then it may
 //! have `peek` and `limit` besides all lines of version 1.
-ghost use Rattle.std.specs.Prelude.{◌≡◌, IfSome, if◌then◌else◌};
+ghost use Rattle.std.specs.Prelude.{◌≡◌, IfErr, IfSome, if◌then◌else◌, true};
 ghost use Rattle.std.specs.Option.{option_map};
 ghost use Rattle.af_base.specs.declared.events.Event.TheVariants as event;
 ghost use Rattle.scm_lines.specs.Fault.{Reads};
 ghost use Rattle.scm_lines.specs.Fitting.{has_verb};
 ghost use Rattle.scm_lines.specs.Forms.{line_row, read_form, step_row};
+ghost use Rattle.scm_lines.specs.Lines.{line_takes_memory};
 ghost use Rattle.scm_lines.specs.Versions.{allowed_in, has_line, is_later, is_unknown, read_in};
 ghost use Rattle.scm_lines.specs.Versions.{version_after};
 ghost use Rattle.scm_lines.specs.Words.{words_of};
+ghost use Rattle.scm_lines.specs.declared.fault.LineFault.TheVariants as fault;
 ghost use Rattle.scm_lines.specs.declared.line.Line.TheVariants as line;
 ghost use Rattle.scm_lines.specs.declared.version.Version.TheVariants as version;
 
@@ -120,7 +122,9 @@ pub fn keyword_in(bytes: &[u8]) -> Option<(Keyword, &[u8])>
 /// Reads the next line of a script of this version. [`LineFault::Unreadable`]: [`line_of`] cannot
 /// read it, or the script may not have it there. [`LineFault::Memory`]: as of [`line_of`].
 pub fn read_in(alloc: Global, version: Version, bytes: &[u8]) -> Result<Line, LineFault>
-    ensures { Reads (read_in version bytes.now) result }
+    ensures read { Reads (read_in version bytes.now) result }
+    ensures memory { IfErr result
+        (λ f. f ≡ fault.Memory → line_takes_memory (words_of bytes.now) ≡ true) }
 {
     let line = line_of(alloc, bytes)?;
     if version.has(&line) {
