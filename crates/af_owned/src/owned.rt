@@ -61,7 +61,9 @@ impl<T> Owned<T> {
 
     /// Creates an engine to which nothing has happened, and that has no value.
     pub fn new(alloc: Global) -> Result<Owned<T>, AllocError>
-        ensures world { IfOk result (λ o. o.machine.world ≡ fresh.world) }
+        ensures machine { IfOk result (λ o.
+            o.machine ≡ record fresh { since = o.machine.since }) }
+        ensures untold { IfOk result (λ o. o.machine.since.changed ≡ false) }
         ensures values { IfOk result (λ o. o.values ≡ map.empty) }
     {
         let mut engine = Engine::new(alloc)?;
@@ -77,7 +79,8 @@ impl<T> Owned<T> {
     /// changed (`changed_sockets`). An event that makes a file then needs memory for it in that
     /// list too.
     pub fn with_readiness(alloc: Global) -> Result<Owned<T>, AllocError>
-        ensures world { IfOk result (λ o. o.machine.world ≡ fresh.world) }
+        ensures machine { IfOk result (λ o.
+            o.machine ≡ record fresh { since = o.machine.since }) }
         ensures told { IfOk result (λ o. o.machine.since.changed ≡ true) }
         ensures values { IfOk result (λ o. o.values ≡ map.empty) }
     {
