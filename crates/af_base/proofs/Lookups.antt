@@ -27,6 +27,11 @@ pub there : {X : Type 0} (o : Option X) → IsTrue (is_some o) → (x : X) × (o
 there None l = absurd (false≢true l)
 there (Some x) l = (x, refl)
 
+-- A changed value is there exactly if the value was.
+pub mapped_some : {X Y : Type 0} (f : X → Y) (o : Option X) → is_some (option_map f o) ≡ is_some o
+mapped_some f None = refl
+mapped_some f (Some x) = refl
+
 -- A number is another, or it is not.
 pub same_or_not : (q k : ℕ) → (q ≡ k) ⊎ (nat_eq q k ≡ false)
 same_or_not q k = elim (cases_Bool (nat_eq q k)) [ inl e ↦ inl (eqb-true q k e) | inr e ↦ inr e ]

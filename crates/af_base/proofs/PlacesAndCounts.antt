@@ -14,7 +14,7 @@ use Rattle.std.proofs.lemmas.Bool.{eqb-true, eq-eqb, false≢true, cases_lt}
 use Rattle.af_base.specs.World.{File, Map, Process, World}
 use Rattle.af_base.specs.Places.{Holds, InTable, contents}
 use Rattle.af_base.specs.Counts.{count_in, one, refs, tabled, total_of}
-use Rattle.af_base.proofs.Sums.{total-remove, first, second}
+use Rattle.af_base.proofs.Sums.{total-remove, first, less, second}
 
 -- A file is in a list as often as it is the first, and then in the rest.
 pub count-cons : (f x : ℕ) (xs : List ℕ) → count_in f (x ∷ xs) ≡ one f x + count_in f xs
@@ -53,12 +53,6 @@ count-Contains f xs h = at xs h.0 h.1 h.2 where
 -- A value's term is at most the sum.
 pub total-has : {X : Type 0} (F : X → ℕ) (m : Map X) (k : ℕ) (x : X) → map.get m k ≡ Some x → F x ≤ total_of F m
 total-has F m k x is = omega (arith, total-remove F m k x is)
-
--- A test for less answers yes only of what compares less.
-less : (o : Ordering) → T (is_lt o) → o ≡ Less
-less Less p = refl
-less Equal p = absurd p
-less Greater p = absurd p
 
 module _ {X : Type 0} where
   -- A key below all others is not found among them.

@@ -115,7 +115,7 @@ holds {b = true} e = refl
 holds {b = false} e = absurd (false≢true (sym e))
 
 -- Where a test for somebody does not fit, there is nobody.
-no_one : (o : Option ℕ) → not (is_none o) ≡ false → o ≡ None
+pub no_one : (o : Option ℕ) → not (is_none o) ≡ false → o ≡ None
 no_one None e = refl
 no_one (Some f) e = absurd (false≢true (sym e))
 

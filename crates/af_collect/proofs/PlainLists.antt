@@ -19,7 +19,7 @@ use Rattle.af_base.specs.declared.listing.ListedSocket.{ListedSocket}
 use Rattle.af_base.specs.Unheld.{map_entries}
 use Rattle.af_base.proofs.PlacesAndCounts.{here, later}
 use Rattle.af_base.proofs.MapsOfLists.{length_queue}
-use Rattle.af_base.proofs.Sums.{first, second}
+use Rattle.af_base.proofs.Sums.{first, less, second}
 
 -- How much a listed socket holds.
 pub held_listed : (s : ListedSocket) → length (contents (AsSocket (socket_of s))) ≡ sum_by (λ m. length m.attached.items) s.queue.items + length s.backlog.items
@@ -32,12 +32,6 @@ entry key value x = (key x, value x)
 -- An entry with its value changed.
 abbrev pub changed : {X : Type 0} → (X → X) → ℕ × X → ℕ × X
 changed g e = (e.0, g e.1)
-
--- A test for less answers yes only of what compares less.
-less : (o : Ordering) → T (is_lt o) → o ≡ Less
-less Less p = refl
-less Equal p = absurd p
-less Greater p = absurd p
 
 module _ {X : Type 0} where
   -- A key below all entries' is below each of their keys.

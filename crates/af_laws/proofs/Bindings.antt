@@ -22,7 +22,7 @@ use Rattle.af_base.proofs.Connections.{whole-bound}
 use Rattle.af_base.proofs.PlaceMoves.{live-changed, there-changed, total-changed}
 use Rattle.af_base.proofs.SocketNames.{name-there, named-none, named-some}
 use Rattle.af_base.proofs.SettledPlaces.{settled-counted, settled-held}
-use Rattle.af_base.proofs.SoundSteps.{none-fits, socket-there}
+use Rattle.af_base.proofs.SoundSteps.{no_one, none-fits, socket-there}
 use Rattle.af_base.specs.Reached.{BySocket}
 use Rattle.af_laws.proofs.PlaceCounts.{holds_in_queue_or_backlog}
 use Rattle.af_laws.proofs.Logs.{ok_is_done, outcome_done}
@@ -97,11 +97,6 @@ pub listen_changes_no_count : ListenChangesNoCount
 listen_changes_no_count old new p n b r settled h =
     same_outcome (effect old p (step.Listen n b)) old new (altered_settled old (ino_on old p n) (listening b) (λ x. refl) (λ x. refl) settled) (alike old (ino_on old p n) (listening b) (λ x. refl) (λ x. refl)) (refusal old p (step.Listen n b)) reply.Ok r h
 
--- Where a test for somebody does not fit, there is nobody.
-nobody : (o : Option ℕ) → not (is_none o) ≡ false → o ≡ None
-nobody None e = refl
-nobody (Some f) e = absurd (false≢true (sym e))
-
 -- A bind that nothing refuses.
 module _ (w : World) (p n : ℕ) (name : List ℕ) (sound : IsSound w) (fits : refusal w p (step.Bind n name) ≡ None) where
   -- The world after the bind.
@@ -113,7 +108,7 @@ module _ (w : World) (p n : ℕ) (name : List ℕ) (sound : IsSound w) (fits : r
   found =
       let row = (none-fits ((not (map.contains_key w.processes p), ESRCH) ∷ step_row w p (step.Bind n name)) fits).rest in
       let there = socket-there w p n row.here row.rest.here in
-      let whole = whole-bound w (ino_on w p n) name (named-none w name (nobody (named w.files name) row.rest.rest.rest.here)) sound.whole in
+      let whole = whole-bound w (ino_on w p n) name (named-none w name (no_one (named w.files name) row.rest.rest.rest.here)) sound.whole in
       let has : name_at named_world (ino_on w p n) ≡ Some name = name-there named_world (ino_on w p n) (Some (AsSocket (with_name name (socket_on w p n)))) (there-changed w (ino_on w p n) (with_name name) (socket_on w p n) there) in
       (names_find_their_sockets named_world (ino_on w p n) name whole).1 has
 

@@ -15,6 +15,7 @@ use Rattle.std.proofs.lemmas.List.Sorted.{IsNonDecreasingBy-from_sort, list_any-
 use Rattle.std.proofs.lemmas.Map.Keys.{IsDistinct-IsPermutation, IsStrictlyIncreasing-from_distinct, sorted_from_strictly_increasing}
 use Rattle.af_base.specs.World.{Map}
 use Rattle.af_base.specs.Refusals.{no_process}
+use Rattle.af_base.proofs.Lookups.{mapped_some}
 use Rattle.af_base.proofs.TreeEntries.{listed}
 use Rattle.af_table.specs.Procs.{processes_of}
 use Rattle.af_table.specs.Slots.{ProcessView}
@@ -60,11 +61,6 @@ has_key (e ∷ es) q = by (nat_eq q e.0) (has_key es q) where
   by true rest = refl
   by false rest = rest
 
--- A changed value is there exactly if the value was.
-has_value : {X Y : Type 0} (f : X → Y) (o : Option X) → is_some (option_map f o) ≡ is_some o
-has_value f None = refl
-has_value f (Some x) = refl
-
 -- A sort of the keys of the hash map.
 module _ {S : Type 0} (m : HashMap ℕ ProcessView S) (js ks : List ℕ) (unique : hash.IsUnique nat_eq m) (keys : hash.keys m ≡ js) (moved : IsPermutation js ks) (sorted : IsSorted nat_cmp ks) where
   -- The sorted list is a permutation of the keys.
@@ -78,4 +74,4 @@ module _ {S : Type 0} (m : HashMap ℕ ProcessView S) (js ks : List ℕ) (unique
   -- They are the pids of the processes, in order.
   pub pids_are : ks ≡ finmap.keys (processes_of m.entries)
   pids_are = keys_are (processes_of m.entries) no_process ks pids_rise (λ q.
-      sym (list_any-IsPermutation (nat_eq q) (hash.keys m) ks from_keys) ∙ sym (ap is_some (process_at_key m q) ∙ has_value _ (hash.get nat_eq m q) ∙ has_key m.entries q))
+      sym (list_any-IsPermutation (nat_eq q) (hash.keys m) ks from_keys) ∙ sym (ap is_some (process_at_key m q) ∙ mapped_some _ (hash.get nat_eq m q) ∙ has_key m.entries q))

@@ -8,7 +8,8 @@ use Rattle.std.proofs.lemmas.List.Quantifiers.{position-Some}
 use Rattle.scm_lines.specs.Numbers.{all_digits, is_digit, number_of}
 use Rattle.scm_lines.specs.Attached.{attached_of, copies_of, item_at, item_of, items_of, joined}
 use Rattle.scm_lines.specs.Spelling.{AreItems, IsAttached, IsItem, IsNumber}
-use Rattle.scm_lines.proofs.Choices.{at_most-few, chained, few, guarded, mapped, split_and}
+use Rattle.af_base.proofs.DerivedEquality.{both}
+use Rattle.scm_lines.proofs.Choices.{at_most-few, chained, few, guarded, mapped}
 use Rattle.scm_lines.proofs.NumberLemmas.{number_digits, number_read, number_said}
 
 -- Whether a byte is a star.
@@ -37,7 +38,7 @@ around_star word i e =
 copies_said : (n k : ℕ) (fds : List ℕ) → copies_of n k ≡ Some fds → (1 ≤ k) × (k ≤ 1024) × (fds ≡ replicate k n)
 copies_said n k fds e =
     let (test, same) = guarded (nat_le 1 k && nat_le k 1024) (replicate k n) fds e in
-    let (some, few) = split_and (nat_le 1 k) (nat_le k 1024) test in
+    let (some, few) = both (nat_le 1 k) (nat_le k 1024) test in
     (grind (arith, common_steps), grind (arith, common_steps), sym same)
 
 -- An item that is read is one of the table.
@@ -73,14 +74,14 @@ digit_no_star b h = grind (arith, common_steps)
 star_after : (front back : List ℕ) → all_digits front ≡ true → position_or_len is_star (front ++ 42 ∷ back) ≡ length front
 star_after [] back h = refl
 star_after (b ∷ front) back h =
-    let (digit, digits) = split_and (is_digit b) (all_digits front) h in
+    let (digit, digits) = both (is_digit b) (all_digits front) h in
     rw (digit_no_star b digit, star_after front back digits) (omega arith)
 
 -- Digits have no star.
 no_star_in : (word : List ℕ) → all_digits word ≡ true → position_or_len is_star word ≡ length word
 no_star_in [] h = refl
 no_star_in (b ∷ word) h =
-    let (digit, digits) = split_and (is_digit b) (all_digits word) h in
+    let (digit, digits) = both (is_digit b) (all_digits word) h in
     rw (digit_no_star b digit, no_star_in word digits) (omega arith)
 
 -- The first star is found right behind the digits.

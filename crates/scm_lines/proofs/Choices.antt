@@ -23,11 +23,6 @@ pub guarded : {A : Type 0} (b : Bool) (x y : A) → cond b (Some x) None ≡ Som
 guarded true x y e = (refl, cc)
 guarded false x y e = cc
 
--- Where a conjunction is true, both parts are.
-pub split_and : (a b : Bool) → (a && b) ≡ true → (a ≡ true) × (b ≡ true)
-split_and true b e = (refl, e)
-split_and false b e = cc
-
 -- A chain of two readings gives a value only if both do.
 pub bound : {A B : Type 0} (r : Option A) (f : A → Option B) (y : B) → (r >>= f) ≡ Some y → (x : A) × ((r ≡ Some x) × (f x ≡ Some y))
 bound None f y e = cc

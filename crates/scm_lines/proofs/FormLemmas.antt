@@ -12,7 +12,8 @@ use Rattle.scm_lines.specs.Attached.{attached_of}
 use Rattle.scm_lines.specs.Keywords.{meaning, privilege_of, type_of, types}
 use Rattle.scm_lines.specs.Spelling.{IsPrivilege, type_name}
 use Rattle.scm_lines.specs.Forms.{Form, FormRow, Kind, SaysForm, SaysRow, SaysWord, Value, end, items, name, named, number, payload, privilege, read_by, read_form, sockets, two, value_in, value_of, ◌◂◌}
-use Rattle.scm_lines.proofs.Choices.{allowed, bound, chosen, ended, guarded, mapped, same_word, split_and}
+use Rattle.af_base.proofs.DerivedEquality.{both}
+use Rattle.scm_lines.proofs.Choices.{allowed, bound, chosen, ended, guarded, mapped, same_word}
 use Rattle.scm_lines.proofs.NumberLemmas.{number_read, number_said}
 use Rattle.scm_lines.proofs.PayloadSays.{payload_read, payload_said}
 use Rattle.scm_lines.proofs.AttachedSays.{attached_read, attached_said}
@@ -161,5 +162,5 @@ other_word test key word passes fails = by (bytes_eq key word) refl
 pub no_key : {K A : Type 0} (test : List ℕ → Bool) (row : K → FormRow A) (keys : List K) (word : List ℕ) → keys_pass test row keys ≡ true → test word ≡ false → named row keys word ≡ None
 no_key test row [] word pass fails = refl
 no_key test row (key ∷ keys) word pass fails =
-    let (first, others) = split_and (test (row key).0) (keys_pass test row keys) pass in
+    let (first, others) = both (test (row key).0) (keys_pass test row keys) pass in
     rw (other_word test (row key).0 word first fails) (no_key test row keys word others fails)

@@ -2,6 +2,7 @@
 use Rattle.std.proofs.Common.{◌≡◌, ℕ, ◌&&◌, List, [], ◌∷◌, Bool, true, false, cond, not, Option, Some, None, codes, is_none, is_some, refl, sym, ap, ◌∙◌}
 use Rattle.std.specs.Option.{option_map}
 use Rattle.std.specs.Str.{bytes_eq}
+use Rattle.af_base.proofs.Lookups.{mapped_some}
 use Rattle.scm_lines.specs.Words.{all_printable, at_end, no_words, ◌>>=◌}
 use Rattle.scm_lines.specs.Attached.{attached_of}
 use Rattle.scm_lines.specs.Keywords.{privilege_of}
@@ -54,11 +55,6 @@ word_fits wanted.Two word = by (bytes_eq word (codes "2"))
 none_not_some : {A : Type 0} (r : Option A) → not (is_some r) ≡ is_none r
 none_not_some None = refl
 none_not_some (Some x) = refl
-
--- A changed value is there exactly if the value was.
-mapped_some : {A B : Type 0} (f : A → B) (r : Option A) → is_some (option_map f r) ≡ is_some r
-mapped_some f None = refl
-mapped_some f (Some x) = refl
 
 -- A value at the end is there exactly where no word is left.
 ended_some : {A : Type 0} (x : A) (words : List (List ℕ)) → no_words words ≡ is_some (at_end x words)

@@ -6,7 +6,8 @@ use Rattle.std.proofs.lemmas.Str.Parse.{IsNumeralModel, numerals_by_fold}
 use Rattle.std.proofs.lemmas.Grind.{common_steps}
 use Rattle.scm_lines.specs.Numbers.{all_digits, is_digit, is_numeral, leads_with_zero, number_of, value_on}
 use Rattle.scm_lines.specs.Spelling.{IsNumber}
-use Rattle.scm_lines.proofs.Choices.{guarded, split_and}
+use Rattle.af_base.proofs.DerivedEquality.{both}
+use Rattle.scm_lines.proofs.Choices.{guarded}
 
 -- Digits with their value are the numerals of the library.
 own : IsNumeralModel (λ ds. all_digits ds ≡ true) (value_on 0)
@@ -31,7 +32,7 @@ numeral_parts word e = (grind (arith, common_steps), grind (arith, common_steps)
 pub number_said : (word : List ℕ) (n : ℕ) → number_of word ≡ Some n → IsNumber word n
 number_said word n e =
     let (test, same) = guarded (is_numeral word && nat_lt (value_on 0 word) (2 ^ 32)) (value_on 0 word) n e in
-    let (numeral, small) = split_and (is_numeral word) (nat_lt (value_on 0 word) (2 ^ 32)) test in
+    let (numeral, small) = both (is_numeral word) (nat_lt (value_on 0 word) (2 ^ 32)) test in
     let (some, digits, lead) = numeral_parts word numeral in
     let below : value_on 0 word < 2 ^ 32 = grind (arith, common_steps) in
     let text : decimal (value_on 0 word) ≡ word = decimal-digits_value own word digits some (lone_zero word some lead) (omega arith) in
@@ -85,5 +86,5 @@ value_more n (b ∷ front) d = value_more (n * 10 + (b - 48)) front d
 pub digits_more : (front : List ℕ) (d : ℕ) → all_digits front ≡ true → is_digit d ≡ true → all_digits (front ++ d ∷ []) ≡ true
 digits_more [] d digits one = rw one refl
 digits_more (b ∷ front) d digits one =
-    let (first, others) = split_and (is_digit b) (all_digits front) digits in
+    let (first, others) = both (is_digit b) (all_digits front) digits in
     rw first (digits_more front d others one)

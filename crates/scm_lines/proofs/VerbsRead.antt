@@ -16,7 +16,7 @@ use Rattle.scm_lines.specs.declared.line.Line.{Line}
 use Rattle.scm_lines.specs.declared.line.Line.TheVariants as line
 use Rattle.scm_lines.specs.declared.line.TheConstants.{MAX_LINE}
 use Rattle.scm_lines.specs.declared.version.Version.{Version}
-use Rattle.scm_lines.proofs.Choices.{split_and}
+use Rattle.af_base.proofs.DerivedEquality.{both}
 use Rattle.scm_lines.proofs.NumberLemmas.{number_digits, number_said}
 use Rattle.scm_lines.proofs.LineLemmas.{is_comment_of, line_said_by_words}
 use Rattle.scm_lines.proofs.VersionsFit.{made, verb_makes}
@@ -24,7 +24,7 @@ use Rattle.scm_lines.proofs.VersionsFit.{made, verb_makes}
 -- A line that begins with a number is no comment.
 not_comment : (w : List ℕ) (n : ℕ) → number_of w ≡ Some n → begins_comment w ≡ false
 not_comment [] n e = refl
-not_comment (b ∷ bytes) n e = above b (split_and (is_digit b) (all_digits bytes) (number_digits (b ∷ bytes) n (number_said (b ∷ bytes) n e))).0
+not_comment (b ∷ bytes) n e = above b (both (is_digit b) (all_digits bytes) (number_digits (b ∷ bytes) n (number_said (b ∷ bytes) n e))).0
   where
     above : (b : ℕ) → is_digit b ≡ true → (b == 35) ≡ false
     above b h = grind (arith, common_steps)

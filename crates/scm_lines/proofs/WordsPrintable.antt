@@ -9,7 +9,8 @@ use Rattle.scm_lines.specs.Words.{all_printable, ends_word, is_blank, onto_word,
 use Rattle.scm_lines.specs.Numbers.{all_digits, is_digit}
 use Rattle.scm_lines.specs.Payload.{hex_value, is_plain}
 use Rattle.scm_lines.specs.Spelling.{AreItems, IsItem, IsNumber, IsPayload, Spells, type_name}
-use Rattle.scm_lines.proofs.Choices.{chosen, guarded, split_and}
+use Rattle.af_base.proofs.DerivedEquality.{both}
+use Rattle.scm_lines.proofs.Choices.{chosen, guarded}
 use Rattle.scm_lines.proofs.NumberLemmas.{number_digits}
 
 -- A byte that a line may have.
@@ -57,7 +58,7 @@ between_printable low high b h k within = grind (arith, common_steps)
 digits_printable : (word : List ℕ) → all_digits word ≡ true → all_printable word ≡ true
 digits_printable [] h = refl
 digits_printable (b ∷ word) h =
-    let (digit, digits) = split_and (is_digit b) (all_digits word) h in
+    let (digit, digits) = both (is_digit b) (all_digits word) h in
     both_true (between_printable 48 57 b (omega arith) (omega arith) digit) (digits_printable word digits)
 
 -- So are the digits of a number.
@@ -97,7 +98,7 @@ payload_printable word bytes (short, inr (some, spelt)) = spelt_printable word b
 joined_printable : (front back : List ℕ) → all_printable front ≡ true → all_printable back ≡ true → all_printable (front ++ back) ≡ true
 joined_printable [] back h k = k
 joined_printable (b ∷ front) back h k =
-    let (byte, bytes) = split_and (byte_printable b) (all_printable front) h in
+    let (byte, bytes) = both (byte_printable b) (all_printable front) h in
     both_true byte (joined_printable front back bytes k)
 
 -- So is an item.
