@@ -6,7 +6,6 @@ use crate::ids::Fd;
 use smallvec::SmallVec;
 use std::alloc::{AllocError, Global};
 use std::default::MadeWith;
-use std::hash::{Hash, Hasher};
 use std::marker::Model;
 
 /// The bytes of a message or of a name: up to 16 lie in the value.
@@ -159,23 +158,5 @@ impl<T: MadeWith<Global> + Copy, const N: usize> Clone for Items<T, N> {
     fn clone(&self) -> Result<Items<T, N>, AllocError> {
         let items = SmallVec::from_slice(*self.items.allocator(), self.as_slice())?;
         Ok(Items { items })
-    }
-}
-
-/// Bytes are hashed as one write, behind their number, and not one by one.
-impl<const N: usize> Hash for Items<u8, N> {
-    ghost use Rattle.std.specs.Prelude.{[], ◌∷◌, ◌++◌, length};
-    ghost use Rattle.std.proofs.Common.{ap};
-    ghost use Rattle.std.specs.Cmp.Lexicographic.{bytes_decides};
-    ghost use Rattle.std.specs.Hash as fed;
-
-    ghost hash_input = { λ x. fed.usize (length x) ++ x ∷ [] };
-
-    ghost respects_eq = { λ x y h. ap (λ z. fed.usize (length z) ++ z ∷ [])
-        ((bytes_decides x y).0 h) };
-
-    fn hash<H: Hasher>(&self, state: &mut H) {
-        state.write_usize(self.len());
-        state.write(self.as_slice());
     }
 }

@@ -97,9 +97,7 @@ fn shade_some(holdings: &mut Holdings, held: &[FileRef])
     ensures { holdings.new
         ≡ record holdings.old { marks = shaded_all held.now holdings.old.marks } }
 {
-    for file in held {
-        holdings.shade(file);
-    }
+    shade_all(&mut holdings.files, held);
 }
 
 /// Marks the embryos of the file's backlog.
@@ -165,11 +163,8 @@ fn messages(holdings: &Holdings, file: &FileRef) -> usize
 fn embryos(holdings: &Holdings, file: &FileRef) -> usize
     ensures { result ≡ length (backlog_at holdings.now.world file.now) }
 {
-    let Some(socket) = holdings.socket(file) else {
-        return 0;
-    };
-    match socket.backlog() {
-        Some(backlog) => backlog.files().len(),
+    match holdings.socket(file) {
+        Some(socket) => socket.embryos(),
         None => 0,
     }
 }
