@@ -5,7 +5,8 @@ use Rattle.std.specs.Int.{bit_at, trailing_zeros, leading_zeros}
 use Rattle.std.proofs.lemmas.Bool.{eqb-true, eqb-false, ltb-true, ltb-false}
 use Rattle.std.proofs.lemmas.List.{get_or-set_same, get_or-set_other, get_or_past}
 use Rattle.std.proofs.lemmas.Grind.{get_or-set_at}
-use Rattle.std.proofs.lemmas.Nat.{and_le_l, leading_length}
+use Rattle.std.proofs.Math.Nat.{div-eq_of_lt-le, pow-suc}
+use Rattle.std.proofs.lemmas.Nat.{and_le_l, leading_length, leading_top}
 use Rattle.std.proofs.lemmas.Nat.Bits.{bit_at-zero, bit_at-lt, bit_at_and, bit_at_not, bit_at_set_same, bit_at_set_other, bit_at_clear_same, bit_at_clear_other, bit_at-trailing_zeros, bit_at_mask_inside, bit_at_mask_below, bit_at_above, ones_shl}
 use Rattle.af_base.specs.declared.limits.TheConstants.{MAX_NOFILE}
 use Rattle.af_table.specs.Bits.{is_set, is_taken, IsPlace, HasNoPlace}
@@ -140,6 +141,23 @@ none_behind ws i q fits above le =
           let word : q / 64 ≡ i = omega arith in
           ap (λ j. is_set (slice_index ws j) (q % 64)) word ∙ word_end (slice_index ws i) m (q % 64) low (omega arith)
       by m total low false e = above (omega (arith, ltb-false q (64 * (i + 1)) e))
+
+-- That bit is set.
+pub taken_before : (ws : List ℕ) (i : ℕ) → slice_index ws i < 2 ^ 64 → slice_index ws i ≢ 0 → is_taken ws (64 * (i + 1) - leading_zeros w64 (slice_index ws i) - 1) ≡ true
+taken_before ws i fits some =
+    let l = leading_top 64 (slice_index ws i) (positive (slice_index ws i) some) fits in
+    by l.0 l.1 l.2 l.3 where
+      positive : (n : ℕ) → n ≢ 0 → 0 < n
+      positive zero apart = absurd (apart refl)
+      positive (suc n) apart = omega arith
+
+      by : (j : ℕ) → leading_zeros w64 (slice_index ws i) + suc j ≡ 64 → 2 ^ j ≤ slice_index ws i → slice_index ws i < 2 ^ suc j → is_taken ws (64 * (i + 1) - leading_zeros w64 (slice_index ws i) - 1) ≡ true
+      by j total low high =
+          let q = 64 * (i + 1) - leading_zeros w64 (slice_index ws i) - 1 in
+          let word : q / 64 ≡ i = omega (arith, total) in
+          let bit : q % 64 ≡ j = omega (arith, total) in
+          let one : slice_index ws i / 2 ^ j ≡ 1 = div-eq_of_lt-le (2 ^ j) (omega (arith, low)) (omega (arith, high, pow-suc 2 j)) in
+          (λ k. is_set (slice_index ws (word k)) (bit k)) ∙ same_bit _ 1 (ap (λ n. n % 2) one)
 
 -- Nor in a word that is 0.
 pub none_in_zero : (ws : List ℕ) (i q : ℕ) → slice_index ws i ≡ 0 → (64 * (i + 1) ≤ q → is_taken ws q ≡ false) → 64 * i ≤ q → is_taken ws q ≡ false

@@ -1,5 +1,5 @@
 //! Which numbers below the largest limit are taken.
-ghost use Rattle.std.specs.Prelude.{◌≡◌, ℕ, ◌≤◌, ◌<◌, IfSome, IfNone, not, true, false, nat_eq};
+ghost use Rattle.std.specs.Prelude.{◌≡◌, ℕ, ◌-◌, ◌≤◌, ◌<◌, IfSome, IfNone, not, true, false, nat_eq};
 ghost use Rattle.std.specs.Prelude.{if◌then◌else◌};
 ghost use Rattle.af_table.specs.Bits.{is_taken, IsPlace, HasNoPlace};
 
@@ -81,7 +81,8 @@ impl Bits {
     /// beyond this one's.
     pub fn end_below(&self, below: u32) -> u32
         requires { below ≤ MAX_NOFILE }
-        ensures { (q : ℕ) → result ≤ q → q < below → is_taken self.now.words q ≡ false }
+        ensures free { (q : ℕ) → result ≤ q → q < below → is_taken self.now.words q ≡ false }
+        ensures last { 0 < result → is_taken self.now.words (result - 1) ≡ true }
     {
         for i in (0..below.div_ceil(u64::BITS)).rev() {
             let word = self.words[i as usize];

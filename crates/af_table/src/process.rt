@@ -1,6 +1,6 @@
 //! A process with its table.
-ghost use Rattle.std.specs.Prelude.{◌≡◌, ℕ, ◌+◌, ◌≤◌, ◌<◌, [], ◌∷◌, length, slice_get, IfSome};
-ghost use Rattle.std.specs.Prelude.{IsTrue, IfNone, IfOk, OnOk, OnErr, IsOk, None, false};
+ghost use Rattle.std.specs.Prelude.{◌≡◌, ℕ, ◌+◌, ◌-◌, ◌≤◌, ◌<◌, [], ◌∷◌, length, slice_get, IfSome};
+ghost use Rattle.std.specs.Prelude.{IsTrue, IfNone, IfOk, OnOk, OnErr, IsOk, None, false, true};
 ghost use Rattle.std.specs.FinMap as map;
 ghost use Rattle.af_base.specs.Changes.{installed, limited, taken_out};
 ghost use Rattle.af_base.specs.Table.{free_numbers, lowest_free};
@@ -82,6 +82,8 @@ impl Process {
     pub(crate) fn copy(&self, row: Vec<FileRef>) -> Result<Process, AllocError>
         ensures process { IfOk result (λ p. p.process ≡ self.now.process) }
         ensures row { IfOk result (λ p. p.row ≤ self.now.row) }
+        ensures last { IfOk result (λ p. 0 < p.row
+            → map.contains_key self.now.process.table (p.row - 1) ≡ true) }
     {
         let end = self.taken.end_below(self.slots.len() as u32);
         let used = self.slots.len().min(end as usize);
