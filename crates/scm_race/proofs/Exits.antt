@@ -9,7 +9,7 @@ use Rattle.af_base.specs.declared.events.Reply.{Reply}
 use Rattle.af_base.specs.declared.events.Reply.TheVariants as reply
 use Rattle.af_layer.specs.Drive.{WentOn, events_of}
 use Rattle.af_layer.specs.Log.{Pair}
-use Rattle.scm_race.specs.Race.{EndsInPass, child_of, exit_of, exits_of}
+use Rattle.scm_race.specs.Race.{Finishes, EndsInPass, child_of, exit_of, exits_of}
 
 -- A list with one pair more is extended by its event.
 pub went-one : (old new : List Pair) (e : Event) (r : Reply) → new ≡ old ++ (e, r) ∷ [] → WentOn old (e ∷ []) new
@@ -43,11 +43,19 @@ exits-one pairs i child p lt here some =
     let one : exits_of (p ∷ []) ≡ exit_of child ∷ [] = rw some refl in
     exits-more pairs i p lt ∙ ap (λ x. exits_of (take i pairs) ++ exits_of (x ∷ [])) here ∙ ap (λ l. exits_of (take i pairs) ++ l) one
 
--- A list that is extended, with a last pass at the end, ends in a pass.
-pub ends : (old first second new : List Pair) (pass reclaimed : ℕ) (more others : List Pair) → first ≡ old ++ more → second ≡ first ++ others → new ≡ second ++ (event.Pass, reply.Done pass reclaimed) ∷ [] → EndsInPass old new
-ends old first second new pass reclaimed more others a b is = (
-  more ++ others,
-  pass,
-  reclaimed,
-  is ∙ ap (λ l. l ++ (event.Pass, reply.Done pass reclaimed) ∷ []) (b ∙ ap (λ l. l ++ others) a ∙ append_assoc old more others),
+-- A list that went on with exits and with others, and got a last pass then, ends in a pass.
+pub finishes : (exits : List Event) (old first second new others : List Pair) (pass reclaimed : ℕ) → WentOn old exits first → second ≡ first ++ others → new ≡ second ++ (event.Pass, reply.Done pass reclaimed) ∷ [] → Finishes exits old new
+finishes exits old first second new others pass reclaimed went more is = (
+  first,
+  went,
+  (others, pass, reclaimed, is ∙ ap (λ l. l ++ (event.Pass, reply.Done pass reclaimed) ∷ []) more),
+)
+
+-- Such a list ends in a pass, whatever exits it has.
+pub in-pass : (exits : List Event) (old new : List Pair) → Finishes exits old new → EndsInPass old new
+in-pass exits old new (exited, went, ended) = (
+  went.0 ++ ended.0,
+  ended.1,
+  ended.2,
+  ended.3 ∙ ap (λ l. l ++ (event.Pass, reply.Done ended.1 ended.2) ∷ []) (ap (λ l. l ++ ended.0) went.1 ∙ append_assoc old went.0 ended.0),
 )

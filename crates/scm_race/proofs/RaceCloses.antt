@@ -1,7 +1,8 @@
 -- The closing of a layer, for a race.
-use Rattle.std.proofs.Common.{◌≡◌, ◌<◌, ◌≤◌, ◌+◌, ◌-◌, ◌++◌, ℕ, true, List, [], ◌∷◌, ap, arith, length, length-append, refl, sym, ◌∙◌, subst, slice_index_or}
+use Rattle.std.proofs.Common.{◌≡◌, ◌<◌, ◌≤◌, ◌+◌, ◌-◌, ◌++◌, ℕ, zero, suc, true, List, [], ◌∷◌, ap, append-nil, arith, length, length-append, refl, sym, ◌∙◌, subst, slice_index_or, take}
 use Rattle.std.specs.Prelude.{Option, Some, slice_get}
-use Rattle.std.proofs.lemmas.List.{get_or_append_left, get_or_push}
+use Rattle.std.proofs.lemmas.Grind.{flat_map-append}
+use Rattle.std.proofs.lemmas.List.{get_or_append_left, get_or_push, take_all, take_more}
 use Rattle.af_base.specs.declared.events.Event.{Event}
 use Rattle.af_layer.specs.Audit.{IsWholeBook, list_at, nobody, number_at}
 use Rattle.af_layer.specs.Calls.{is_seat}
@@ -10,7 +11,7 @@ use Rattle.af_layer.specs.Log.{BookView, IsLegal, Pair, of_seat}
 use Rattle.af_layer.specs.Seats.{SeatView}
 use Rattle.af_layer.proofs.SeatPositions.{known_number}
 use Rattle.scm_race.specs.Script.{script_of}
-use Rattle.scm_race.specs.Race.{EndsInPass, Raced, spawned, works_of_race}
+use Rattle.scm_race.specs.Race.{ChildrenExit, Finishes, EndsInPass, Raced, all_exits_of, exits_in, exits_of, spawned, works_of_race}
 use Rattle.scm_race.proofs.Works.{collector-at, worker-at}
 
 -- The number of a seat that is known is not 0.
@@ -34,8 +35,6 @@ module _ (workers steps seed budget : ℕ) (b : BookView) (opened driven : List 
     (fresh : (i : ℕ) → i < workers + 1 → slice_index_or opened i nobody ≡ record { number = i + 1; list = [] })
     (drove : Driven Made opened (works_of_race workers steps seed budget) driven)
     (number : last.number ≡ workers + 2)
-    (ended : EndsInPass (spawned workers) last.list)
-    (legal : IsLegal b.seats b.machine b.log)
     (whole : IsWholeBook b (driven ++ last ∷ [])) where
   -- All seats.
   seats : List SeatView
@@ -89,5 +88,24 @@ module _ (workers steps seed budget : ℕ) (b : BookView) (opened driven : List 
       sym (ap (λ s. s.list) here) ∙ part-at b seats whole (workers + 1) (omega (arith, seats-count)) ∙ ap (λ k. of_seat k b.log) (ap (λ s. s.number) here ∙ number)
 
   -- So the race is one that ended well.
-  pub raced : Raced workers steps seed budget b
-  raced = record { legal = legal; scripts = scripts; turns = turns; main_thread = subst (EndsInPass (spawned workers)) main_part ended }
+  pub raced : EndsInPass (spawned workers) last.list → IsLegal b.seats b.machine b.log → Raced workers steps seed budget b
+  raced ended legal = record { legal = legal; scripts = scripts; turns = turns; main_thread = subst (EndsInPass (spawned workers)) main_part ended }
+
+  -- The exits of the first seats' children, by the log.
+  exits : (n : ℕ) → n ≤ workers + 1 → all_exits_of (take n driven) ≡ exits_in n b.log
+  unfolding exits_in
+  exits zero le = refl
+  exits (suc n) le =
+      let next : n + 1 ≡ suc n = omega arith in
+      let more : all_exits_of (take (n + 1) driven) ≡ exits_in n b.log ++ exits_of (of_seat (n + 1) b.log) =
+      ap all_exits_of (take_more driven n nobody (omega (arith, le, driven-count)))
+      ∙ flat_map-append (λ s. exits_of s.list) (take n driven) (slice_index_or driven n nobody ∷ [])
+      ∙ ap (λ l. l ++ all_exits_of (slice_index_or driven n nobody ∷ [])) (exits n (omega (arith, le)))
+      ∙ ap (λ l. exits_in n b.log ++ l) (append-nil (exits_of (list_at driven n)) ∙ ap exits_of (sym (part n (omega (arith, le))))) in
+      subst (λ k. all_exits_of (take k driven) ≡ exits_in n b.log ++ exits_of (of_seat k b.log)) next more
+
+  -- The main thread let all of these children exit.
+  pub children-exit : Finishes (all_exits_of driven) (spawned workers) last.list → ChildrenExit workers b.log
+  children-exit list =
+      let all : all_exits_of driven ≡ exits_in (workers + 1) b.log = ap all_exits_of (sym (take_all (workers + 1) driven (omega (arith, driven-count)))) ∙ exits (workers + 1) (omega arith) in
+      subst (Finishes (exits_in (workers + 1) b.log) (spawned workers)) main_part (subst (λ e. Finishes e (spawned workers) last.list) all list)

@@ -5,9 +5,10 @@ use Rattle.af_layer.specs.Audit.{IsWholeBook, nobody}
 use Rattle.af_layer.specs.Drive.{Driven, Made}
 use Rattle.af_layer.specs.Log.{BookView, IsLegal, Pair, of_seat}
 use Rattle.af_layer.specs.Seats.{SeatView}
-use Rattle.scm_race.specs.Race.{EndsInPass, Raced, RacedBy, spawned, worker_steps, works_of_race}
+use Rattle.scm_race.specs.Race.{ChildrenExit, Finishes, EndsInPass, Raced, RacedBy, all_exits_of, spawned, worker_steps, works_of_race}
 use Rattle.scm_race.proofs.SeatEntries.{counted}
-use Rattle.scm_race.proofs.RaceCloses.{raced}
+use Rattle.scm_race.proofs.Exits.{in-pass}
+use Rattle.scm_race.proofs.RaceCloses.{children-exit, raced}
 use Rattle.scm_race.proofs.ScriptLength.{script-count}
 
 -- All seats as they were opened; those that were driven, before and after; the last one when it was
@@ -20,8 +21,7 @@ module _ (workers steps seed budget : ℕ) (b : BookView) (all opened driven han
     (started_list : started.list ≡ first.list ++ spawned workers)
     (drove : Driven Made opened (works_of_race workers steps seed budget) driven)
     (number : last.number ≡ started.number)
-    (list : EndsInPass started.list last.list)
-    (legal : IsLegal b.seats b.machine b.log)
+    (list : Finishes (all_exits_of driven) started.list last.list)
     (joined : handed ≡ driven ++ last ∷ [])
     (whole : IsWholeBook b handed) where
   -- One seat less was driven than was opened.
@@ -41,13 +41,25 @@ module _ (workers steps seed budget : ℕ) (b : BookView) (all opened driven han
   last-number : last.number ≡ workers + 2
   last-number = let at_first = ap (λ (s : SeatView). s.number) first-fresh in omega (arith, number, started_number, at_first)
 
-  -- Its list has the start, and ends in a pass.
-  last-list : EndsInPass (spawned workers) last.list
-  last-list = subst (λ (l : List Pair). EndsInPass l last.list) (started_list ∙ ap (λ (s : SeatView). s.list ++ spawned workers) first-fresh) list
+  -- Its list has the start and the children's exits, and ends in a pass.
+  last-list : Finishes (all_exits_of driven) (spawned workers) last.list
+  last-list = subst (λ (l : List Pair). Finishes (all_exits_of driven) l last.list) (started_list ∙ ap (λ (s : SeatView). s.list ++ spawned workers) first-fresh) list
+
+  -- It ends in a pass.
+  last-pass : EndsInPass (spawned workers) last.list
+  last-pass = in-pass (all_exits_of driven) (spawned workers) last.list last-list
+
+  -- All is audited.
+  all-whole : IsWholeBook b (driven ++ last ∷ [])
+  all-whole = subst (IsWholeBook b) joined whole
 
   -- So the race is one that ended well.
-  pub race-raced : Raced workers steps seed budget b
-  race-raced = raced workers steps seed budget b opened driven last opened-count fresh drove last-number last-list legal (subst (IsWholeBook b) joined whole)
+  pub race-raced : IsLegal b.seats b.machine b.log → Raced workers steps seed budget b
+  race-raced legal = raced workers steps seed budget b opened driven last opened-count fresh drove last-number all-whole last-pass legal
+
+  -- Each child that was forked has exited.
+  pub race-exits : ChildrenExit workers b.log
+  race-exits = children-exit workers steps seed budget b opened driven last opened-count fresh drove last-number all-whole last-list
 
 -- The workers of a race that ended well have all their steps in its log.
 pub all-steps : (Turns : ℕ → List Pair → Type 0) (workers steps seed : ℕ) (b : BookView) → 5 ≤ steps → RacedBy Turns workers steps seed b → worker_steps workers b.log ≡ workers * steps

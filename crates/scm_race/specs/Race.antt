@@ -7,7 +7,7 @@ use Rattle.af_base.specs.declared.events.Event.{Event}
 use Rattle.af_base.specs.declared.events.Event.TheVariants as event
 use Rattle.af_base.specs.declared.events.Reply.TheVariants as reply
 use Rattle.af_base.specs.declared.events.Step.TheVariants as step
-use Rattle.af_layer.specs.Drive.{Collects, Script, Turned, Work, events_of}
+use Rattle.af_layer.specs.Drive.{Collects, Script, Turned, WentOn, Work, events_of}
 use Rattle.af_layer.specs.Log.{BookView, Entry, IsLegal, Pair, of_seat}
 use Rattle.af_layer.specs.Seats.{SeatView}
 use Rattle.scm_race.specs.Script.{script_of}
@@ -50,10 +50,24 @@ exits_of pairs = map exit_of (filter_map child_of pairs)
 abbrev pub all_exits_of : List SeatView → List Event
 all_exits_of seats = flat_map (λ s. exits_of s.list) seats
 
+-- The exits of all children that were forked from the first n seats, by a log.
+unfoldable pub exits_in : ℕ → List Entry → List Event
+exits_in zero log = []
+exits_in (suc n) log = exits_in n log ++ exits_of (of_seat (suc n) log)
+
 -- A list was extended, and ended with a whole pass that was done.
 abbrev pub EndsInPass : List Pair → List Pair → Type 0
 EndsInPass old new = (between : List Pair) × (pass : ℕ) × (reclaimed : ℕ)
     × (new ≡ old ++ between ++ (event.Pass, reply.Done pass reclaimed) ∷ [])
+
+-- A list was extended by these exits, and then ended with a whole pass that was done.
+abbrev pub Finishes : List Event → List Pair → List Pair → Type 0
+Finishes exits old new = (exited : List Pair) × WentOn old exits exited × EndsInPass exited new
+
+-- The main thread started the processes of this many workers. After all work it let each child exit
+-- that a worker had forked, and made a last pass.
+abbrev pub ChildrenExit : ℕ → List Entry → Type 0
+ChildrenExit workers log = Finishes (exits_in (workers + 1) log) (spawned workers) (of_seat (workers + 2) log)
 
 -- The log of a race that ended well: it is a run of the machine; each worker did its script, and
 -- the collector this many turns, as `Turns` says; the main thread started the processes first, and

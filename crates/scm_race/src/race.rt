@@ -5,7 +5,8 @@ ghost use Rattle.af_layer.specs.Audit.{IsWholeBook};
 ghost use Rattle.af_layer.specs.Drive.{Driven, Made};
 ghost use Rattle.af_layer.specs.Log.{BookView, IsLegal};
 ghost use Rattle.af_layer.specs.Seats.{SeatView};
-ghost use Rattle.scm_race.specs.Race.{EndsInPass, Raced, worker_steps, works_of_race};
+ghost use Rattle.scm_race.specs.Race.{ChildrenExit, Finishes, Raced, all_exits_of, worker_steps};
+ghost use Rattle.scm_race.specs.Race.{works_of_race};
 ghost use Rattle.scm_race.specs.declared.workload.script.TheConstants.{MIN_STEPS, MAX_STEPS};
 ghost use Rattle.scm_race.specs.declared.workload.table.TheConstants.{MAX_WORKERS};
 
@@ -34,7 +35,7 @@ pub struct Race {
 /// Lets all children exit that the workers forked, ends the pass that runs, and makes a last one.
 fn finish<R: Wait>(rt: &R, layer: &Layer, main: &mut Seat, seats: &[Seat]) -> Result<(), RaceFault>
     ensures number { main.new.number ≡ main.old.number }
-    ensures done { OnOk result (EndsInPass main.old.list main.new.list) }
+    ensures done { OnOk result (Finishes (all_exits_of seats.now) main.old.list main.new.list) }
 {
     end_children(rt, layer, main, seats)?;
     end_pass(rt, layer, main)?;
@@ -60,6 +61,7 @@ impl Race {
         requires steps { (MIN_STEPS ≤ self.steps) × (self.steps ≤ MAX_STEPS) }
         ensures raced { IfOk result (λ outcome.
             Raced self.workers self.steps self.seed self.budget outcome.closed.book) }
+        ensures exits { IfOk result (λ outcome. ChildrenExit self.workers outcome.closed.book.log) }
         ensures workers { IfOk result (λ outcome. outcome.workers ≡ self.workers) }
         ensures steps { IfOk result (λ outcome.
             worker_steps self.workers outcome.closed.book.log ≡ self.workers * self.steps) }
@@ -88,8 +90,10 @@ impl Race {
         requires count { vec_len seats ≡ self.workers + 2 }
         requires fresh { (i : ℕ) (other : SeatView) → i < self.workers + 2
             → slice_index_or seats.items i other ≡ record { number = i + 1; list = [] } }
-        ensures { IfOk result (λ after. (b : BookView) → IsLegal b.seats b.machine b.log
+        ensures raced { IfOk result (λ after. (b : BookView) → IsLegal b.seats b.machine b.log
             → IsWholeBook b after.items → Raced self.workers self.steps self.seed self.budget b) }
+        ensures exits { IfOk result (λ after. (b : BookView)
+            → IsWholeBook b after.items → ChildrenExit self.workers b.log) }
     {
         let mut main = seats.pop().unwrap();
         start_processes(rt, layer, &mut main, self.workers)?;

@@ -4,7 +4,10 @@ use Rattle.scm_race.proofs.RaceEnds.{all-steps}
 use Rattle.scm_race.proofs.race.Race.run.Goals as goal
 
 pub returns-clause-raced : goal.returns-clause-raced
-returns-clause-raced g c = c.in_ok-seats.ensures c.in_ok-closed.closed.book c.in_ok-closed.ensures.legal c.in_ok-closed.ensures.whole
+returns-clause-raced g c = c.in_ok-seats.ensures.raced c.in_ok-closed.closed.book c.in_ok-closed.ensures.legal c.in_ok-closed.ensures.whole
+
+pub returns-clause-exits : goal.returns-clause-exits
+returns-clause-exits g c = c.in_ok-seats.ensures.exits c.in_ok-closed.closed.book c.in_ok-closed.ensures.whole
 
 pub returns-clause-steps : goal.returns-clause-steps
 returns-clause-steps g c =
