@@ -1,5 +1,5 @@
 //! The words that say which form a line has.
-ghost use Rattle.std.specs.Prelude.{◌≡◌};
+ghost use Rattle.std.specs.Prelude.{◌≡◌, ◌++◌, IfSome};
 ghost use Rattle.scm_lines.specs.Keywords.{type_of};
 ghost use Rattle.scm_lines.specs.Forms.{keywords, line_row, named, step_row, verbs};
 
@@ -78,6 +78,21 @@ pub fn keyword_named(word: &[u8]) -> Option<Keyword>
         b"version" => Keyword::Version,
         _ => return None,
     })
+}
+
+/// Returns the keyword of an event at the front of the bytes, and the bytes after it. These may go
+/// on with the word: to look for its end first would cost more.
+#[inline(always)]
+pub fn event_at(bytes: &[u8]) -> Option<(Keyword, &[u8])>
+    ensures { IfSome result (λ found. bytes.now ≡ (line_row found.0).0 ++ found.1.now) }
+{
+    match bytes {
+        [b'b', b'e', b'g', b'i', b'n', rest @ ..] => Some((Keyword::Begin, rest)),
+        [b's', b'l', b'i', b'c', b'e', rest @ ..] => Some((Keyword::Slice, rest)),
+        [b'p', b'a', b's', b's', rest @ ..] => Some((Keyword::Pass, rest)),
+        [b's', b'p', b'a', b'w', b'n', rest @ ..] => Some((Keyword::Spawn, rest)),
+        _ => None,
+    }
 }
 
 /// Returns the verb that the word after a process's number names, if it is one. The verbs that

@@ -17,10 +17,10 @@ ghost use Rattle.scm_lines.specs.declared.line.Line.TheVariants as line;
 ghost use Rattle.scm_lines.specs.declared.version.Version.TheVariants as version;
 
 use crate::fault::LineFault;
-use crate::keywords::{Keyword, Verb, keyword_named, verb_named};
+use crate::keywords::{Keyword, Verb, event_at, verb_named};
 use crate::line::{Line, MAX_LINE, line_of};
 use crate::numbers::number_in;
-use crate::words::first_word;
+use crate::words::{ends_word, first_word};
 use af_base::events::{Event, Step};
 use af_base::ids::Pid;
 use std::alloc::Global;
@@ -106,8 +106,8 @@ pub fn verb_in(version: Version, bytes: &[u8]) -> Option<(Pid, Verb, &[u8])>
     }
 }
 
-/// Returns the keyword that a line begins with, and the bytes after it. `None` says that
-/// [`read_in`] has to read the line.
+/// Returns the keyword of the event that a line begins with, and the bytes after it. `None` says
+/// that [`read_in`] has to read the line.
 pub fn keyword_in(bytes: &[u8]) -> Option<(Keyword, &[u8])>
     ensures { IfSome result (λ found. (v : Version) → read_in v bytes.now
         ≡ allowed_in v (read_form (line_row found.0).1 (words_of found.1.now))) }
@@ -115,8 +115,12 @@ pub fn keyword_in(bytes: &[u8]) -> Option<(Keyword, &[u8])>
     if bytes.len() > MAX_LINE {
         return None;
     }
-    let (word, rest) = first_word(bytes)?;
-    Some((keyword_named(word)?, rest))
+    let (keyword, rest) = event_at(bytes)?;
+    if ends_word(rest) {
+        Some((keyword, rest))
+    } else {
+        None
+    }
 }
 
 /// Reads the next line of a script of this version. [`LineFault::Unreadable`]: [`line_of`] cannot
