@@ -205,7 +205,7 @@ impl Order {
         ensures least { IfSome result (λ n.
             (q : ℕ) → ino < q → q < n.0 → map.get (keys_of slab.now) q ≡ None) }
     {
-        if self.read > 0 || self.rows.len() < 2 || at > self.rows.len() - 2 {
+        if self.read > 0 || at >= self.rows.len().saturating_sub(1) {
             return None;
         }
         let (dead, next) = (&self.rows[at], &self.rows[at + 1]);
