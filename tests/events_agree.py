@@ -205,7 +205,7 @@ def forms() -> Dict[str, str]:
 def keywords() -> Dict[str, str]:
     """What each word stands for where a line is read: behind a process a verb, and else a keyword."""
     text = text_of("crates/scm_lines/src/keywords.rt")
-    return {word: name for word, name in re.findall(r'b"(\w+)" => ((?:Verb|Keyword)::\w+)', text)}
+    return {word: name for word, name in re.findall(r'b"(\w+)"(?: =>|,) ((?:Verb|Keyword)::\w+)', text)}
 
 
 def later_steps() -> Dict[str, str]:

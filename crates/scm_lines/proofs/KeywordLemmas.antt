@@ -1,10 +1,13 @@
 -- The keywords of the tables.
-use Rattle.std.proofs.Common.{◌≡◌, ℕ, ◌≤◌, ◌==◌, ◌||◌, List, true, false, not, length, get_or, nat_lt, Some, None, refl, sym, arith}
+use Rattle.std.proofs.Common.{◌≡◌, ℕ, ◌≤◌, ◌==◌, ◌||◌, List, [], ◌∷◌, Bool, true, false, cond, find, map, not, length, get_or, nat_lt, Some, None, refl, sym, arith}
 use Rattle.std.proofs.lemmas.Grind.{common_steps}
 use Rattle.std.proofs.lemmas.Bool.Decides.{nat_tests}
 use Rattle.std.specs.List.{list_any}
+use Rattle.std.specs.Option.{option_map}
+use Rattle.std.specs.Str.{bytes_eq}
 use Rattle.scm_lines.specs.Words.{all_printable, begins_comment}
 use Rattle.scm_lines.specs.Numbers.{number_of}
+use Rattle.scm_lines.specs.Keywords.{meaning}
 use Rattle.scm_lines.specs.Forms.{FormRow, keywords, line_row, named, step_row, verbs}
 use Rattle.scm_lines.specs.declared.keywords.Keyword.{Keyword}
 use Rattle.scm_lines.specs.declared.keywords.Keyword.TheVariants as keyword
@@ -41,6 +44,17 @@ keyword_letters other = refl
 pub keyword_plain : (k : Keyword) → begins_comment (line_row k).0 ≡ false
 keyword_plain keyword.Spawn = refl
 keyword_plain other = refl
+
+-- A table that has each key with its word finds the key that the rows find.
+pub meaning_named : {K A : Type 0} (row : K → FormRow A) (keys : List K) (word : List ℕ) → meaning (map (λ k. ((row k).0, k)) keys) word ≡ named row keys word
+meaning_named row [] word = refl
+meaning_named {K} row (key ∷ keys) word = by_test (bytes_eq (row key).0 word) (meaning_named row keys word)
+  where
+    by_test : (b : Bool) → meaning (map (λ k. ((row k).0, k)) keys) word ≡ named row keys word
+        → option_map (λ (e : List ℕ × K). e.1) (cond b (Some ((row key).0, key)) (find (λ (e : List ℕ × K). bytes_eq e.0 word) (map (λ k. ((row k).0, k)) keys)))
+        ≡ cond b (Some key) (named row keys word)
+    by_test true later = refl
+    by_test false later = later
 
 -- Where all words of this length begin with one of these bytes, no other word of this length is
 -- one.

@@ -1,6 +1,6 @@
 //! The words that say which form a line has.
-ghost use Rattle.std.specs.Prelude.{◌≡◌, ◌++◌, IfSome};
-ghost use Rattle.scm_lines.specs.Keywords.{type_of};
+ghost use Rattle.std.specs.Prelude.{◌≡◌, ◌++◌, IfSome, map};
+ghost use Rattle.scm_lines.specs.Keywords.{meaning, type_of};
 ghost use Rattle.scm_lines.specs.Forms.{keywords, line_row, named, step_row, verbs};
 
 use af_base::events::SockType;
@@ -63,21 +63,42 @@ pub enum Verb {
     Limit,
 }
 
+/// Each keyword, with its word.
+const KEYWORDS: [(&[u8], Keyword); 8] = [
+    (b"spawn", Keyword::Spawn),
+    (b"begin", Keyword::Begin),
+    (b"slice", Keyword::Slice),
+    (b"pass", Keyword::Pass),
+    (b"table", Keyword::Table),
+    (b"totals", Keyword::Totals),
+    (b"check", Keyword::Check),
+    (b"version", Keyword::Version),
+];
+
+/// Each type of sockets, with its word.
+const TYPES: [(&[u8], SockType); 2] = [
+    (b"stream", SockType::Stream),
+    (b"seqpacket", SockType::Seqpacket),
+];
+
+/// Returns the value that a table has for a word.
+fn meaning<V: Copy>(mut table: &[(&[u8], V)], word: &[u8]) -> Option<V>
+    ensures { result ≡ meaning (map (λ entry. (entry.0.now, entry.1)) table.entry.now) word.now }
+{
+    while let [entry, rest @ ..] = table {
+        if entry.0 == word {
+            return Some(entry.1);
+        }
+        table = rest;
+    }
+    None
+}
+
 /// Returns the keyword of a line's first word, if it is one.
 pub fn keyword_named(word: &[u8]) -> Option<Keyword>
     ensures { result ≡ named line_row keywords word.now }
 {
-    Some(match word {
-        b"spawn" => Keyword::Spawn,
-        b"begin" => Keyword::Begin,
-        b"slice" => Keyword::Slice,
-        b"pass" => Keyword::Pass,
-        b"table" => Keyword::Table,
-        b"totals" => Keyword::Totals,
-        b"check" => Keyword::Check,
-        b"version" => Keyword::Version,
-        _ => return None,
-    })
+    meaning(&KEYWORDS, word)
 }
 
 /// Returns the keyword of an event at the front of the bytes, and the bytes after it. These may go
@@ -125,9 +146,5 @@ pub fn verb_named(word: &[u8]) -> Option<Verb>
 pub fn type_named(word: &[u8]) -> Option<SockType>
     ensures { result ≡ type_of word.now }
 {
-    match word {
-        b"stream" => Some(SockType::Stream),
-        b"seqpacket" => Some(SockType::Seqpacket),
-        _ => None,
-    }
+    meaning(&TYPES, word)
 }
