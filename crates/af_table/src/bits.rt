@@ -77,8 +77,8 @@ impl Bits {
         None
     }
 
-    /// Returns a number that is above each number of the set below this one. Looks at no word
-    /// beyond this one's.
+    /// Returns one more than a number of the set, or 0: each number of the set below this one is
+    /// below the answer. Looks at no word beyond this one's.
     pub fn end_below(&self, below: u32) -> u32
         requires { below ≤ MAX_NOFILE }
         ensures free { (q : ℕ) → result ≤ q → q < below → is_taken self.now.words q ≡ false }

@@ -270,7 +270,7 @@ impl Order {
         }
     }
 
-    /// Begins a packing, or goes on with it.
+    /// Begins or continues a packing.
     #[inline(never)]
     fn pack_some<T>(&mut self, slab: &Slab<NumberedValue<T>>)
         requires place { AreInPlace (keys_of slab.now) slab.now }
