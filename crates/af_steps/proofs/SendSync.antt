@@ -35,7 +35,7 @@ use Rattle.af_steps.specs.contracts.engine.Engine.TheInside as EngineInside
 
 -- The fields of an order may go to another thread.
 order_inside : IsSend OrderInside.the_row
-order_inside = declared_send OrderInside.the_type (search (sendable, crosses, row.the_send) depth 20, (search (sendable, crosses, row.the_send) depth 20, (search sendable, (search (sendable, crosses) depth 20, tt))))
+order_inside = declared_send OrderInside.the_type (search sendable, (search (sendable, crosses, row.the_send) depth 20, (search sendable, (search (sendable, crosses) depth 20, tt))))
 
 -- So may an order.
 order_send : IsSend Order.the_row

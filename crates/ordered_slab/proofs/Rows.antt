@@ -1,10 +1,11 @@
 -- Rows that rise, in two lists, and how a push, a packing and a removal change them.
-use Rattle.std.proofs.Common.{◌≡◌, ℕ, ◌+◌, ◌-◌, ◌<◌, ◌≤◌, ◌⊎◌, inl, inr, List, [], ◌∷◌, ◌++◌, length, take, drop, refl, sym, ap, subst, ◌∙◌, append_assoc, get_or-drop, length-drop, length-append, get_or-append-add, arith}
+use Rattle.std.proofs.Common.{◌≡◌, ℕ, ◌+◌, ◌-◌, ◌<◌, ◌≤◌, ◌⊎◌, inl, inr, List, [], ◌∷◌, ◌++◌, length, take, drop, refl, sym, ap, subst, ◌∙◌, append_assoc, get_or-drop, length-drop, length-append, get_or-append-add, set, Bool, true, false, arith}
 use Rattle.std.specs.Prelude.{Some}
 use Rattle.std.specs.FinMap as map
-use Rattle.std.proofs.lemmas.Bool.{cases_lt}
-use Rattle.std.proofs.lemmas.List.{append-nil, drop-append-le, drop-drop, drop_all, drop_more, get_or_append_left, get_or_push, length_push, take_all}
+use Rattle.std.proofs.lemmas.Bool.{cases_lt, false≢true}
+use Rattle.std.proofs.lemmas.List.{drop-append-le, drop-drop, drop-set-lt, drop_more, get_or_append_left, get_or_push, length-set, length_push, take-append-le, take-set, take_all, take_more_set}
 use Rattle.std.proofs.Math.Seq.{get_or-append_right}
+use mir.Val.{bool_byte}
 use Rattle.af_base.specs.World.{Map}
 use Rattle.ordered_slab.specs.OrderView.{OrderRowView}
 use Rattle.ordered_slab.specs.Rows.{row_at, Rise, AllUpTo, HasRow, KeepsLive}
@@ -81,7 +82,7 @@ module _ (xs ys : List OrderRowView) where
   ]
 
   -- Both lists rise as one, if each does and the second is above the first.
-  pub rise_join : Rise xs → Rise ys → ((i j : ℕ) → i < length xs → j < length ys → (row_at xs i).ino < (row_at ys j).ino) → Rise (xs ++ ys)
+  rise_join : Rise xs → Rise ys → ((i j : ℕ) → i < length xs → j < length ys → (row_at xs i).ino < (row_at ys j).ino) → Rise (xs ++ ys)
   rise_join left right across i j l m = elim (cases_lt i (length xs)) [
     | inl a ↦ subst (λ (r : OrderRowView). r.ino < (row_at (xs ++ ys) j).ino) (sym (left_at i a)) (elim (cases_lt j (length xs)) [
       | inl b ↦ subst (λ (r : OrderRowView). (row_at xs i).ino < r.ino) (sym (left_at j b)) (left i j l b)
@@ -114,19 +115,19 @@ module _ (xs ys : List OrderRowView) (n : ℕ) where
   inside i l = let long = length-drop n ys in omega (arith, long, l)
 
   -- Both lists still rise.
-  pub skip_rise : Rise (xs ++ ys) → Rise (xs ++ drop n ys)
+  skip_rise : Rise (xs ++ ys) → Rise (xs ++ drop n ys)
   skip_rise h = rise_join xs (drop n ys) (rise_left xs ys h) (λ i j l m.
       let o = rise_right xs ys h (n + i) (n + j) (omega (arith, l)) (inside j m) in
       omega (arith, o, ap (λ r. r.ino) (behind i), ap (λ r. r.ino) (behind j)))
       (λ i j l m. let o = rise_across xs ys h i (n + j) l (inside j m) in omega (arith, o, ap (λ r. r.ino) (behind j)))
 
   -- And go no higher.
-  pub skip_up : (last : ℕ) → AllUpTo last (xs ++ ys) → AllUpTo last (xs ++ drop n ys)
+  skip_up : (last : ℕ) → AllUpTo last (xs ++ ys) → AllUpTo last (xs ++ drop n ys)
   skip_up last h = each xs (drop n ys) (λ r. r.ino ≤ last) (up_left xs ys last h)
       (λ i l. subst (λ (r : OrderRowView). r.ino ≤ last) (sym (behind i)) (up_right xs ys last h (n + i) (inside i l)))
 
   -- If the first n rows are dead, each live row stays.
-  pub skip_kept : (m : Map ℕ) → ((j q k : ℕ) → j < n → j < length ys → row_at ys j ≡ record { ino = q; key = k } → map.get m q ≡ Some k → ⊥) → KeepsLive m (xs ++ ys) (xs ++ drop n ys)
+  skip_kept : (m : Map ℕ) → ((j q k : ℕ) → j < n → j < length ys → row_at ys j ≡ record { ino = q; key = k } → map.get m q ≡ Some k → ⊥) → KeepsLive m (xs ++ ys) (xs ++ drop n ys)
   skip_kept m dead q k at x = elim (in_either xs ys q k x) [
     | inl a ↦ in_left xs (drop n ys) q k a
     | inr a ↦ elim (cases_lt a.0 n) [
@@ -142,12 +143,12 @@ module _ (xs ys : List OrderRowView) (n : ℕ) where
 -- One row more.
 module _ (rows : List OrderRowView) (r : OrderRowView) where
   -- Rows below it rise with it.
-  pub push_rise : (last : ℕ) → Rise rows → AllUpTo last rows → last < r.ino → Rise (rows ++ r ∷ [])
+  push_rise : (last : ℕ) → Rise rows → AllUpTo last rows → last < r.ino → Rise (rows ++ r ∷ [])
   push_rise last rise up above = rise_join rows (r ∷ []) rise (λ i j l m. absurd (omega (arith, l, m)))
       (λ i j l m. let o = up i l in let first : 0 ≡ j = omega (arith, m) in subst (λ k. (row_at rows i).ino < (row_at (r ∷ []) k).ino) first (omega (arith, o, above)))
 
   -- Its number is the last.
-  pub push_up : (last : ℕ) → AllUpTo last rows → last < r.ino → AllUpTo r.ino (rows ++ r ∷ [])
+  push_up : (last : ℕ) → AllUpTo last rows → last < r.ino → AllUpTo r.ino (rows ++ r ∷ [])
   push_up last up above = each rows (r ∷ []) (λ x. x.ino ≤ r.ino) (λ i l. let o = up i l in omega (arith, o, above))
       (λ i l. let first : 0 ≡ i = omega (arith, l) in subst (λ k. (row_at (r ∷ []) k).ino ≤ r.ino) first (omega arith))
 
@@ -163,60 +164,100 @@ row_last front r = get_or_push front r none_row (length front) refl
 pub rest : (rows : List OrderRowView) (n : ℕ) → take (length rows - n) (drop n rows) ≡ drop n rows
 rest rows n = take_all (length rows - n) (drop n rows) (omega (arith, length-drop n rows))
 
--- Packed rows, and others of which some were read.
-module _ (packed rows : List OrderRowView) (read : ℕ) where
-  -- A row that is read and packed stays where it was in both.
-  pub moved : read < length rows → (packed ++ row_at rows read ∷ []) ++ drop (read + 1) rows ≡ packed ++ drop read rows
-  moved l = append_assoc packed (row_at rows read ∷ []) (drop (read + 1) rows) ∙ ap (λ xs. packed ++ xs) (sym (drop_more rows read none_row l))
+-- Rows of which some were read, and some of these packed: the order has the packed ones, and those that were not read.
+abbrev pub ordered : ℕ → ℕ → List OrderRowView → List OrderRowView
+ordered packed read rows = take packed rows ++ drop read rows
 
-  -- Where all rows were read, the packed ones are all.
-  pub all_read : length rows ≤ read → packed ≡ packed ++ drop read rows
-  all_read done = sym (ap (λ xs. packed ++ xs) (drop_all read rows done) ∙ append-nil packed)
+-- Its rows rise, up to the last number, and at most as many are packed as read.
+abbrev pub IsOrder : ℕ → ℕ → ℕ → List OrderRowView → Type 0
+IsOrder last packed read rows = Rise (ordered packed read rows) × AllUpTo last (ordered packed read rows) × (packed ≤ read) × (read ≤ length rows)
 
-  -- A row more at the end is one more of both lists.
-  pub grown : (r : OrderRowView) → read ≤ length rows → packed ++ drop read (rows ++ r ∷ []) ≡ (packed ++ drop read rows) ++ r ∷ []
-  grown r l = ap (λ xs. packed ++ xs) (drop-append-le read rows (r ∷ []) l) ∙ sym (append_assoc packed (drop read rows) (r ∷ []))
+module _ (packed read : ℕ) (rows : List OrderRowView) where
+  -- A row more at the end is one more of the order.
+  pub grown : (r : OrderRowView) → packed ≤ read → read ≤ length rows → ordered packed read (rows ++ r ∷ []) ≡ ordered packed read rows ++ r ∷ []
+  grown r few l =
+      ap (λ xs. xs ++ drop read (rows ++ r ∷ [])) (take-append-le packed rows (r ∷ []) (omega (arith, few, l)))
+      ∙ ap (λ xs. take packed rows ++ xs) (drop-append-le read rows (r ∷ []) l) ∙ sym (append_assoc (take packed rows) (drop read rows) (r ∷ []))
 
-  -- More rows were read.
-  module _ (next : ℕ) (more : read ≤ next) where
-    -- Those that are left are behind them.
-    left : drop (next - read) (drop read rows) ≡ drop next rows
-    left = drop-drop (next - read) read rows ∙ ap (λ n. drop n rows) (omega (arith, more))
+  -- And the order is one still, if the row is above the last.
+  pub push_order : (r : OrderRowView) (last : ℕ) → IsOrder last packed read rows → last < r.ino → IsOrder r.ino packed read (rows ++ r ∷ [])
+  push_order r last is above =
+      let same = sym (grown r is.2 is.3) in (
+        subst Rise same (push_rise (ordered packed read rows) r last is.0 is.1 above),
+        subst (AllUpTo r.ino) same (push_up (ordered packed read rows) r last is.1 above),
+        is.2,
+        (let long = length_push rows r in omega (arith, long, is.3)),
+      )
 
-    -- The lists still rise.
-    pub read_rise : Rise (packed ++ drop read rows) → Rise (packed ++ drop next rows)
-    read_rise h = subst (λ xs. Rise (packed ++ xs)) left (skip_rise packed (drop read rows) (next - read) h)
+-- The next row is read.
+module _ (packed read : ℕ) (rows : List OrderRowView) (few : packed ≤ read) (some : read < length rows) where
+  -- A row is written behind the packed ones, and not packed: the order has one row less.
+  skipped : (r : OrderRowView) → ordered packed (read + 1) (set rows packed r) ≡ ordered packed (read + 1) rows
+  skipped r = ap (λ xs. xs ++ drop (read + 1) (set rows packed r)) (take-set rows packed r)
+      ∙ ap (λ xs. take packed rows ++ xs) (drop-set-lt (read + 1) rows packed r (omega (arith, few)))
 
-    -- And go no higher.
-    pub read_up : (last : ℕ) → AllUpTo last (packed ++ drop read rows) → AllUpTo last (packed ++ drop next rows)
-    read_up last h = subst (λ xs. AllUpTo last (packed ++ xs)) left (skip_up packed (drop read rows) (next - read) last h)
+  -- If it is the one that was read, and packed, the order stays.
+  moved : ordered (packed + 1) (read + 1) (set rows packed (row_at rows read)) ≡ ordered packed read rows
+  moved = ap (λ xs. xs ++ drop (read + 1) (set rows packed (row_at rows read))) (take_more_set rows packed (row_at rows read) (omega (arith, few, some)))
+      ∙ ap (λ xs. (take packed rows ++ row_at rows read ∷ []) ++ xs) (drop-set-lt (read + 1) rows packed (row_at rows read) (omega (arith, few)))
+      ∙ append_assoc (take packed rows) (row_at rows read ∷ []) (drop (read + 1) rows) ∙ ap (λ xs. take packed rows ++ xs) (sym (drop_more rows read none_row some))
 
-    -- If the rows that were read are dead, each live row stays.
-    pub read_kept : (m : Map ℕ) → ((j q k : ℕ) → read ≤ j → j < next → row_at rows j ≡ record { ino = q; key = k } → map.get m q ≡ Some k → ⊥) → KeepsLive m (packed ++ drop read rows) (packed ++ drop next rows)
-    read_kept m dead = subst (λ xs. KeepsLive m (packed ++ drop read rows) (packed ++ xs)) left
-        (skip_kept packed (drop read rows) (next - read) m (λ j q k l _ is. dead (read + j) q k (omega arith) (omega (arith, l)) (sym (get_or-drop read rows j none_row) ∙ is)))
+  -- The others are those behind it.
+  left : drop 1 (drop read rows) ≡ drop (read + 1) rows
+  left = drop-drop 1 read rows
 
--- If a row was not read, the last one was not.
-pub last_unread : (rows front : List OrderRowView) (r : OrderRowView) (read : ℕ) → rows ≡ front ++ r ∷ [] → read < length rows → read ≤ length front
-last_unread rows front r read ends some = omega (arith, ap length ends ∙ length_push front r, some)
+  -- If it is dead, each live row stays.
+  skip_dead : (m : Map ℕ) → (map.get m (row_at rows read).ino ≡ Some (row_at rows read).key → ⊥) → KeepsLive m (ordered packed read rows) (ordered packed (read + 1) rows)
+  skip_dead m dead = subst (λ xs. KeepsLive m (ordered packed read rows) (take packed rows ++ xs)) left
+      (skip_kept (take packed rows) (drop read rows) 1 m (λ j q k one _ is at.
+      let first : read ≡ read + j = omega (arith, one) in
+      let row = ap (row_at rows) first ∙ sym (get_or-drop read rows j none_row) ∙ is in
+      dead (ap (λ (r : OrderRowView). map.get m r.ino) row ∙ at ∙ ap (λ (r : OrderRowView). Some r.key) (sym row))))
+
+  -- It is packed if it is live: then the order is one still,
+  pub read_order : (live : Bool) (n last : ℕ) → n ≡ bool_byte live → IsOrder last packed read rows → IsOrder last (packed + n) (read + 1) (set rows packed (row_at rows read))
+  read_order true n last e is = subst (λ k. IsOrder last (packed + k) (read + 1) (set rows packed (row_at rows read))) (sym e) (
+    subst Rise (sym moved) is.0,
+    subst (AllUpTo last) (sym moved) is.1,
+    omega (arith, few),
+    (let long = length-set rows packed (row_at rows read) in omega (arith, long, some)),
+  )
+  read_order false n last e is = subst (λ k. IsOrder last k (read + 1) (set rows packed (row_at rows read))) (omega (arith, e)) (
+    subst Rise (sym (skipped (row_at rows read))) (subst (λ xs. Rise (take packed rows ++ xs)) left (skip_rise (take packed rows) (drop read rows) 1 is.0)),
+    subst (AllUpTo last) (sym (skipped (row_at rows read))) (subst (λ xs. AllUpTo last (take packed rows ++ xs)) left (skip_up (take packed rows) (drop read rows) 1 last is.1)),
+    omega (arith, few),
+    (let long = length-set rows packed (row_at rows read) in omega (arith, long, some)),
+  )
+
+  -- and each live row stays.
+  pub read_kept : (live : Bool) (n : ℕ) (m : Map ℕ) → n ≡ bool_byte live → (map.get m (row_at rows read).ino ≡ Some (row_at rows read).key → live ≡ true)
+      → KeepsLive m (ordered packed read rows) (ordered (packed + n) (read + 1) (set rows packed (row_at rows read)))
+  read_kept true n m e is q k at x = subst (λ p. HasRow (ordered (packed + p) (read + 1) (set rows packed (row_at rows read))) q k) (sym e) (subst (λ xs. HasRow xs q k) (sym moved) x)
+  read_kept false n m e is q k at x = subst (λ p. HasRow (ordered p (read + 1) (set rows packed (row_at rows read))) q k) (omega (arith, e))
+      (subst (λ xs. HasRow xs q k) (sym (skipped (row_at rows read))) (skip_dead m (λ live. false≢true (is live)) q k at x))
 
 -- The last row is removed.
-module _ (packed rows front : List OrderRowView) (r : OrderRowView) (read : ℕ) (ends : rows ≡ front ++ r ∷ []) (unread : read ≤ length front) where
-  -- It was the last of both lists.
-  popped : packed ++ drop read rows ≡ (packed ++ drop read front) ++ r ∷ []
-  popped = ap (λ xs. packed ++ drop read xs) ends ∙ grown packed front read r unread
+module _ (packed read : ℕ) (rows front : List OrderRowView) (r : OrderRowView) (few : packed ≤ read) (ends : rows ≡ front ++ r ∷ []) (some : read < length rows) where
+  -- It was not read.
+  unread : read ≤ length front
+  unread = omega (arith, ap length ends ∙ length_push front r, some)
 
-  -- The others rise.
-  pub pop_rise : Rise (packed ++ drop read rows) → Rise (packed ++ drop read front)
-  pop_rise h = rise_left (packed ++ drop read front) (r ∷ []) (subst Rise popped h)
+  -- It was the last of the order.
+  popped : ordered packed read rows ≡ ordered packed read front ++ r ∷ []
+  popped = ap (ordered packed read) ends ∙ grown packed read front r few unread
 
-  -- And go no higher.
-  pub pop_up : (last : ℕ) → AllUpTo last (packed ++ drop read rows) → AllUpTo last (packed ++ drop read front)
-  pop_up last h = up_left (packed ++ drop read front) (r ∷ []) last (subst (AllUpTo last) popped h)
+  -- The order is one still.
+  pub pop_order : (last : ℕ) → IsOrder last packed read rows → IsOrder last packed read front
+  pop_order last is = (
+    rise_left (ordered packed read front) (r ∷ []) (subst Rise popped is.0),
+    up_left (ordered packed read front) (r ∷ []) last (subst (AllUpTo last) popped is.1),
+    few,
+    unread,
+  )
 
   -- If it was dead, each live row stays.
-  pub pop_kept : (m : Map ℕ) → (map.get m r.ino ≡ Some r.key → ⊥) → KeepsLive m (packed ++ drop read rows) (packed ++ drop read front)
-  pop_kept m dead q k at x = elim (in_either (packed ++ drop read front) (r ∷ []) q k (subst (λ xs. HasRow xs q k) popped x)) [
+  pub pop_kept : (m : Map ℕ) → (map.get m r.ino ≡ Some r.key → ⊥) → KeepsLive m (ordered packed read rows) (ordered packed read front)
+  pop_kept m dead q k at x = elim (in_either (ordered packed read front) (r ∷ []) q k (subst (λ xs. HasRow xs q k) popped x)) [
     | inl a ↦ a
     | inr a ↦
         let first : 0 ≡ a.0 = omega (arith, a.1) in

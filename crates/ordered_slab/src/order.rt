@@ -1,8 +1,8 @@
 //! The order of numbers that only rise.
 //!
-//! A removal leaves the number's row, dead. A packing reads `rows` from the front, and copies each
-//! live row to the end of `packed`. When all was read, the two lists are swapped. So the rows are
-//! those of `packed` and the part of `rows` that was not read.
+//! A removal leaves the number's row, dead. A packing reads the rows from the front, and moves each
+//! live one down over the dead ones. Between the packed rows and those not read yet lie old rows,
+//! which are cut off once all are read.
 ghost use Rattle.std.specs.Prelude.{◌≡◌, ℕ, ◌+◌, ◌^◌, ◌≤◌, ◌<◌, ◌++◌, ◌∷◌, [], length, true};
 ghost use Rattle.std.specs.Prelude.{Some, IsTrue, IsSome, IfSome, IfNone, IsOk, OnOk, None};
 ghost use Rattle.std.specs.FinMap as map;
@@ -29,34 +29,33 @@ const PACKED_AT_ONCE: usize = 16;
 /// ones are packed a few at a time, so that each event has a bounded cost.
 #[derive(Drop)]
 pub struct Order {
-    /// The rows that were copied here, rising. There is always room here for as many as there are
-    /// `rows`, so that packing needs no memory.
-    packed: Vec<OrderRow>,
-    /// The other rows, rising, behind those that a packing has read.
+    /// How many rows a packing has packed. Not beside `read`, or one store writes both, and the next
+    /// row is read only when it is known whether the last one is live.
+    packed: usize,
+    /// All rows, rising, but for those from `packed` to `read`.
     rows: Vec<OrderRow>,
-    /// How many of `rows` a packing has read.
+    /// How many rows a packing has read.
     read: usize,
     /// The last number that was pushed, 0 before the first: for contracts alone.
     last: Snapshot<Ino>,
 }
 
 impl Model for Order {
-    ghost use Rattle.std.specs.Prelude.{◌-◌, ◌≤◌, ◌++◌, drop, min, vec_capacity, length};
+    ghost use Rattle.std.specs.Prelude.{◌-◌, ◌≤◌, ◌++◌, take, drop, vec_capacity, length};
     ghost use Rattle.ordered_slab.specs.OrderView.{OrderView};
     ghost use Rattle.ordered_slab.specs.Rows.{AllUpTo, Rise};
 
     ghost Value = { OrderView };
 
     ghost view = { λ a. record {
-      rows = a.packed.items ++ drop a.read a.rows.items;
+      rows = take a.packed a.rows.items ++ drop a.read a.rows.items;
       last = a.last.value;
-      room = min (vec_capacity a.packed) (vec_capacity a.rows) - length a.rows.items;
+      room = vec_capacity a.rows - length a.rows.items;
     } };
 
-    ghost invariant = { λ a. Rise (a.packed.items ++ drop a.read a.rows.items)
-        × AllUpTo a.last.value (a.packed.items ++ drop a.read a.rows.items)
-        × (a.read ≤ length a.rows.items)
-        × (length a.packed.items ≤ a.read) × (length a.rows.items ≤ vec_capacity a.packed) };
+    ghost invariant = { λ a. Rise (take a.packed a.rows.items ++ drop a.read a.rows.items)
+        × AllUpTo a.last.value (take a.packed a.rows.items ++ drop a.read a.rows.items)
+        × (a.packed ≤ a.read) × (a.read ≤ length a.rows.items) };
 }
 
 impl Order {
@@ -66,34 +65,29 @@ impl Order {
         ensures last { result.last ≡ 0 }
     {
         Order {
-            packed: Vec::new(alloc),
+            packed: 0,
             rows: Vec::new(alloc),
             read: 0,
             last: Snapshot::of(&Ino(0)),
         }
     }
 
-    /// Reserves room for this many numbers more, and for packing them: then neither `push` nor
-    /// `pack` needs memory for them. Nothing else changes, also on an error.
+    /// Reserves room for this many numbers more: then `push` needs no memory for them. Nothing else
+    /// changes, also on an error.
     pub fn reserve(&mut self, numbers: usize) -> Result<(), AllocError>
         ensures same { self.new ≡ record self.old { room = self.new.room } }
         ensures ok { OnOk result (numbers ≤ self.new.room) }
         ensures room { self.old.room ≤ self.new.room }
         ensures succeeds { numbers ≤ self.old.room → IsOk result }
     {
-        self.rows.reserve(numbers)?;
-        let wanted = self.rows.len().saturating_add(numbers);
-        if wanted <= self.packed.capacity() {
-            return Ok(());
-        }
-        self.packed.reserve(wanted - self.packed.len())
+        self.rows.reserve(numbers)
     }
 
     /// Returns how many more numbers there is room for.
     pub fn room(&self) -> usize
         ensures { result ≡ self.now.room }
     {
-        self.packed.capacity().min(self.rows.capacity()) - self.rows.len()
+        self.rows.capacity() - self.rows.len()
     }
 
     /// Adds a number, above all earlier ones, with its key. There is room for it.
@@ -153,7 +147,7 @@ impl Order {
         ensures key { result ≡ map.get (keys_of slab.now) ino }
         ensures number { IsSome result → ino ≤ MAX_INO }
     {
-        match key_in(slab, &self.packed, ino) {
+        match key_in(slab, &self.rows[..self.packed], ino) {
             Some(key) => Some(key),
             None => key_in(slab, &self.rows[self.read..], ino),
         }
@@ -248,7 +242,7 @@ impl Order {
             (q : ℕ) → ino < q → q < n.0 → map.get (keys_of slab.now) q ≡ None) }
         ensures none { IfNone result ((q : ℕ) → ino < q → map.get (keys_of slab.now) q ≡ None) }
     {
-        if let Some(next) = next_in(slab, &self.packed, ino, at) {
+        if let Some(next) = next_in(slab, &self.rows[..self.packed], ino, at) {
             return Some(next);
         }
         let at = at.saturating_sub(self.read);
@@ -279,29 +273,16 @@ impl Order {
         ensures room { self.old.room ≤ self.new.room }
     {
         for _ in 0..PACKED_AT_ONCE {
-            if self.finish() {
-                return;
-            }
             self.pack_row(slab);
         }
-    }
-
-    /// Replaces the rows by the packed ones, if all rows were read. Returns whether it did.
-    fn finish(&mut self) -> bool
-        ensures rows { self.new.rows ≡ self.old.rows }
-        ensures last { self.new.last ≡ self.old.last }
-        ensures room { self.old.room ≤ self.new.room }
-    {
-        if self.read < self.rows.len() {
-            return false;
+        if self.read == self.rows.len() {
+            self.rows.truncate(self.packed);
+            self.packed = 0;
+            self.read = 0;
         }
-        mem::swap(&mut self.packed, &mut self.rows);
-        self.packed.clear();
-        self.read = 0;
-        true
     }
 
-    /// Reads one row more, if there is one: passes over a dead one, and copies a live one.
+    /// Reads a row, if one is left: it moves a live one behind the packed ones, and drops a dead one.
     #[inline(always)]
     fn pack_row<T>(&mut self, slab: &Slab<NumberedValue<T>>)
         requires place { AreInPlace (keys_of slab.now) slab.now }
@@ -309,24 +290,14 @@ impl Order {
         ensures last { self.new.last ≡ self.old.last }
         ensures room { self.old.room ≤ self.new.room }
     {
-        if self.read < self.rows.len() && !is_live(slab, &self.rows[self.read]) {
-            self.read += 1;
+        let Some(row) = self.rows.get(self.read) else {
             return;
-        }
-        self.copy_row();
-    }
-
-    /// Copies the first row that was not read, if there is one, to the end of `packed`.
-    #[inline(always)]
-    fn copy_row(&mut self)
-        ensures rows { self.new.rows ≡ self.old.rows }
-        ensures last { self.new.last ≡ self.old.last }
-        ensures room { self.old.room ≤ self.new.room }
-    {
-        if self.read < self.rows.len() {
-            self.packed.push_reserved(self.rows[self.read].duplicate());
-            self.read += 1;
-        }
+        };
+        // No processor can guess whether it is live: a dead one is written too, the next one over it.
+        let live = is_live(slab, row);
+        self.rows[self.packed] = row.duplicate();
+        self.packed += usize::from(live);
+        self.read += 1;
     }
 }
 

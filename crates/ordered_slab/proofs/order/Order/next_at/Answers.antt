@@ -1,4 +1,4 @@
-use Rattle.std.proofs.Common.{◌≤◌, drop, inl, inr, sym, ap, subst, ◌∙◌, arith}
+use Rattle.std.proofs.Common.{◌≤◌, take, drop, inl, inr, length-take, sym, ap, subst, ◌∙◌, arith}
 use Rattle.std.proofs.lemmas.Bool.{cases_lt, eqb-true}
 use Rattle.ordered_slab.specs.Rows.{row_at, Rise, HasRow}
 use Rattle.ordered_slab.proofs.Rows.{in_either, none_row, rise_right}
@@ -8,7 +8,7 @@ use Rattle.ordered_slab.proofs.order.Order.next_at.Goals as goal
 
 pub is_between-requires : goal.is_between-requires
 is_between-requires c =
-    let rise = rise_right c.self.inside.packed.items (drop c.self.inside.read c.self.inside.rows.items) c.self.invariant.0 in
+    let rise = rise_right (take c.self.inside.packed c.self.inside.rows.items) (drop c.self.inside.read c.self.inside.rows.items) c.self.invariant.0 in
     let all = subst (λ n. Rise (drop n c.self.inside.rows.items)) c.if-self-eq0.true rise in
     subst Rise (sym c.deref-then-self-eq0.ensures.value) all
 
@@ -20,9 +20,9 @@ returns-then-is_between-clause-least c = λ q k x above. elim c.if-number-ino.br
       let is_so = sym w.value-is ∙ c.if-is_between.true in
       let got = c.in_ok-row.ensures.lookup in
       let here = ap (λ r. r.ino) (got.3.1 none_row) ∙ ap (λ xs. (row_at xs c.args.at).ino) c.deref.ensures.value in
-      let rise = subst (λ n. Rise (drop n rows)) w.if-self-eq0.true (rise_right c.self.inside.packed.items (drop c.self.inside.read rows) c.self.invariant.0) in
-      elim (in_either c.self.inside.packed.items (drop c.self.inside.read rows) q k (subst (λ a. HasRow a.rows q k) (sym c.self.view_is) x)) [
-        | inl a ↦ let few = c.self.invariant.3 in absurd (omega (arith, a.1, few, w.if-self-eq0.true))
+      let rise = subst (λ n. Rise (drop n rows)) w.if-self-eq0.true (rise_right (take c.self.inside.packed c.self.inside.rows.items) (drop c.self.inside.read rows) c.self.invariant.0) in
+      elim (in_either (take c.self.inside.packed c.self.inside.rows.items) (drop c.self.inside.read rows) q k (subst (λ a. HasRow a.rows q k) (sym c.self.view_is) x)) [
+        | inl a ↦ let long = length-take c.self.inside.packed rows in let few = c.self.invariant.2 in absurd (omega (arith, a.1, long, few, w.if-self-eq0.true))
         | inr a ↦
             let b = subst (λ n. HasRow (drop n rows) q k) w.if-self-eq0.true a in
             elim (cases_lt b.0 c.args.at) [

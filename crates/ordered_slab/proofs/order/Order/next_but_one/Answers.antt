@@ -1,4 +1,4 @@
-use Rattle.std.proofs.Common.{rules, ◌≡◌, ◌≤◌, ◌<◌, ◌+◌, ℕ, drop, length, inl, inr, sym, ap, subst, ◌∙◌, arith}
+use Rattle.std.proofs.Common.{rules, ◌≡◌, ◌≤◌, ◌<◌, ◌+◌, ℕ, take, drop, length, length-take, inl, inr, sym, ap, subst, ◌∙◌, arith}
 use Rattle.std.specs.Prelude.{Some}
 use Rattle.std.specs.FinMap as map
 use Rattle.std.proofs.lemmas.Bool.{false≢true}
@@ -15,7 +15,7 @@ unread c = let none = c.if-self-gt0.false in omega (arith, none)
 
 -- So all rows rise,
 rise : {g : _} (c : goal.After-duplicate g) → Rise c.self.inside.rows.items
-rise c = let rows = c.self.inside.rows.items in subst (λ n. Rise (drop n rows)) (unread c) (rise_right c.self.inside.packed.items (drop c.self.inside.read rows) c.self.invariant.0)
+rise c = let rows = c.self.inside.rows.items in subst (λ n. Rise (drop n rows)) (unread c) (rise_right (take c.self.inside.packed c.self.inside.rows.items) (drop c.self.inside.read rows) c.self.invariant.0)
 
 -- and there are two at this position.
 two : {g : _} (c : goal.After-duplicate g) → c.args.at + 1 < length c.self.inside.rows.items
@@ -44,7 +44,7 @@ returns-clause-least g c = λ q above before. nowhere (keys_of c.args.slab.now) 
     let dead : (j n m : ℕ) → c.args.at ≤ j → j < c.args.at + 1 → row_at rows j ≡ record { ino = n; key = m } → map.get (keys_of c.args.slab.now) n ≡ Some m → ⊥ = λ j n m from end is live.
     let row = here ∙ ap (row_at rows) (let e : c.args.at ≡ j = omega (arith, from, end) in e) ∙ is in
     false≢true (sym c.if-is_live.false ∙ c.is_live.ensures.dead (ap (λ (r : OrderRowView). map.get (keys_of c.args.slab.now) r.ino) row ∙ live ∙ ap (λ (r : OrderRowView). Some r.key) (sym row))) in
-    elim (in_either c.self.inside.packed.items (drop c.self.inside.read rows) q k (subst (λ a. HasRow a.rows q k) (sym c.self.view_is) (c.requires.listed q k at))) [
-      | inl a ↦ let few = c.self.invariant.3 in absurd (omega (arith, a.1, few, unread c))
+    elim (in_either (take c.self.inside.packed c.self.inside.rows.items) (drop c.self.inside.read rows) q k (subst (λ a. HasRow a.rows q k) (sym c.self.view_is) (c.requires.listed q k at))) [
+      | inl a ↦ let long = length-take c.self.inside.packed rows in let few = c.self.invariant.2 in absurd (omega (arith, a.1, long, few, unread c))
       | inr a ↦ passed rows (rise c) (keys_of c.args.slab.now) c.args.ino c.args.at (c.args.at + 1) low dead q k above (λ _. subst (λ n. q < n) (second c) before) at (subst (λ n. HasRow (drop n rows) q k) (unread c) a)
     ])
