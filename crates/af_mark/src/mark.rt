@@ -1,13 +1,15 @@
 //! A file's mark.
-ghost use Rattle.std.specs.Prelude.{◌≡◌};
+ghost use Rattle.std.specs.Prelude.{◌≡◌, ◌-◌, ◌^◌, min};
 ghost use Rattle.af_mark.specs.Grey.{black_mark, color_in, grey_mark, unmarked};
 ghost use Rattle.af_mark.specs.MarksView.{is_grey_color};
 
 use crate::color::Color;
 
-/// Clamps a position in the list of grey files to what a mark can keep.
+/// Clamps a position in the list of grey files to what a mark can keep: 32 bits.
 #[inline(always)]
-pub fn clamp_index(at: usize) -> u32 {
+pub fn clamp_index(at: usize) -> u32
+    ensures { result ≡ min at (2 ^ 32 - 1) }
+{
     at.min(u32::MAX as usize) as u32
 }
 
