@@ -123,6 +123,8 @@ pub fn take(
     ensures same { OnErr result
         (messages_of nodes.new chain.new ≡ messages_of nodes.old chain.old) }
     ensures unchanged { OnErr result (nodes.new ≡ nodes.old) }
+    ensures nothing_taken { OnErr result (taken.new ≡ taken.old) }
+    ensures succeeds { kind ≡ SockType.Seqpacket → IsOk result }
 {
     match kind {
         SockType::Stream => take_stream(nodes, chain, alloc, max, taken),
@@ -170,6 +172,7 @@ fn take_stream(
     ensures same { OnErr result
         (messages_of nodes.new chain.new ≡ messages_of nodes.old chain.old) }
     ensures unchanged { OnErr result (nodes.new ≡ nodes.old) }
+    ensures nothing_taken { OnErr result (taken.new ≡ taken.old) }
 {
     let queue = Queue::of(nodes, chain);
     // Most receives end within the first message.
