@@ -32,8 +32,7 @@ use Rattle.af_ledger.proofs.Laws.{charge-added, count-entered, count-struck, inf
 use Rattle.af_ledger.proofs.Users.{user-added, user-stays}
 use Rattle.af_collect.specs.Agreement.{Agrees}
 use Rattle.af_collect.proofs.FreedFiles.{same_backlog}
-use Rattle.af_collect.proofs.Recounts.{charged-push, charged-shed, tabled-install, tabled-uninstall, total-new, total-weightless, waiting-dequeued}
-use Rattle.af_collect.proofs.QueueRests.{Sheds}
+use Rattle.af_collect.proofs.Recounts.{charged-push, charged-shed, tabled-install, tabled-uninstall, total-new, total-weightless, waiting-dequeued, Sheds}
 
 -- Each process has a user that is kept.
 abbrev AreKnown : World → List (ℕ × ℕ) → Type 0

@@ -21,8 +21,7 @@ use Rattle.af_ledger.specs.Tally.{CanDrop, CanDropAll, CanHold, CanHoldAll, Tall
 use Rattle.af_ledger.specs.declared.place.Place.TheVariants.{Backlog, Table}
 use Rattle.af_ledger.proofs.ManyPlaces.{one-itself}
 use Rattle.af_collect.specs.Agreement.{Agrees}
-use Rattle.af_collect.proofs.Recounts.{charged-shed, waiting-dequeued}
-use Rattle.af_collect.proofs.QueueRests.{Sheds}
+use Rattle.af_collect.proofs.Recounts.{charged-shed, waiting-dequeued, Sheds}
 
 -- All numbers of the map are below n.
 abbrev AreBelow : ℕ → Map ℕ → Type 0

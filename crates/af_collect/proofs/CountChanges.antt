@@ -1,17 +1,34 @@
--- Files of which the counts alone change, one after the other.
-use Rattle.std.proofs.Common.{◌≡◌, ◌≤◌, ℕ, List, length, take, ap, sym, ◌∙◌}
+-- Files that come into a table, or of which the counts alone change, one after the other.
+use Rattle.std.proofs.Common.{◌≡◌, ℕ, List, [], ◌∷◌, length, refl, arith, ◌≤◌, take, ap, sym, ◌∙◌}
+use Rattle.std.specs.List.{zip}
 use Rattle.std.specs.Prelude.{unwrap_or}
 use Rattle.std.specs.FinMap as map
 use Rattle.std.proofs.lemmas.List.{take_all}
 use Rattle.af_base.specs.World.{Map}
 use Rattle.af_base.proofs.Lookups.{insert-here}
-use Rattle.af_desc.specs.FilesView.{FilesView, with_file_ref, with_moved_ref, without_file_ref}
+use Rattle.af_ledger.specs.Tally.{Tally, with_ref, with_refs, LedgerView, count_in_map, kept_of}
+use Rattle.af_ledger.specs.declared.place.Place.TheVariants.{Table}
 use Rattle.af_ledger.specs.Counted.{fewer, more, uncounted}
-use Rattle.af_ledger.specs.Tally.{LedgerView, Tally, count_in_map, kept_of}
 use Rattle.af_ledger.specs.declared.count.Count.{Count}
 use Rattle.af_ledger.specs.declared.place.Place.{Place}
-use Rattle.af_ledger.specs.declared.place.Place.TheVariants.{Table}
+use Rattle.af_desc.specs.FilesView.{FilesView, with_file_ref, with_moved_ref, without_file_ref}
 use Rattle.af_collect.proofs.ProcessTables.{insert_twice}
+
+-- No number is left.
+pub no-numbers : (ns fs : List ℕ) → length ns ≡ 0 → zip ns fs ≡ []
+no-numbers [] fs e = refl
+no-numbers (n ∷ ns) fs e = absurd (omega (arith, e))
+
+-- No file is left.
+pub no-files : (ns fs : List ℕ) → length fs ≡ 0 → zip ns fs ≡ []
+no-files [] fs e = refl
+no-files (n ∷ ns) [] e = refl
+no-files (n ∷ ns) (f ∷ fs) e = absurd (omega (arith, e))
+
+-- The charges stay.
+pub charges-filled : (fs : List ℕ) (k : Tally) → with_refs Table fs k ≡ record k { counts = (with_refs Table fs k).counts }
+charges-filled [] k = refl
+charges-filled (f ∷ fs) k = charges-filled fs (with_ref Table f k)
 
 -- Where the counts alone changed before, and change once more, the counts alone have changed.
 pub counts-alone : (start before after : FilesView) (m : Map Count) → after ≡ record before { counts = m } → before ≡ record start { counts = before.counts } → after ≡ record start { counts = after.counts }

@@ -43,7 +43,7 @@ use Rattle.af_collect.specs.Agreement.{IsExact}
 use Rattle.af_collect.specs.HoldingsView.{filled}
 use Rattle.af_collect.proofs.Agreement.{agrees-dequeued, agrees-empty, agrees-entered, agrees-gone, agrees-install, agrees-limited, agrees-new_file, agrees-push, agrees-refs, agrees-remove_process, agrees-shed, agrees-spawned, agrees-struck, agrees-uninstall}
 use Rattle.af_collect.proofs.Bounds.{can-drop-all}
-use Rattle.af_collect.proofs.QueueRests.{Sheds}
+use Rattle.af_collect.proofs.Recounts.{Sheds}
 
 -- Two worlds with the same parts are one.
 pub world-is : (v w : World) → v.processes ≡ w.processes → v.files ≡ w.files → v.next_ino ≡ w.next_ino → v.next_pid ≡ w.next_pid → v.users ≡ w.users → v ≡ w

@@ -1,4 +1,4 @@
--- How marks change, as equations of tests.
+-- How marks change, as equations of tests: they know just the live files.
 use Rattle.std.proofs.Common.{◌≡◌, ◌<◌, ℕ, Bool, true, false, not, ◌&&◌, ◌||◌, ◌⊎◌, inl, inr, refl, sym, ap, ◌∙◌, cond, nat_eq}
 use Rattle.std.specs.Prelude.{Option, Some, None, is_some, nat_lt, ◌≤◌}
 use Rattle.std.specs.Cmp.{both_ways, nat_cmp_total, unsigned_tied}
@@ -8,13 +8,17 @@ use Rattle.std.specs.Ordering.{eq_by_cmp, nat_cmp}
 use Rattle.std.specs.Option.{option_map_or}
 use Rattle.std.proofs.lemmas.Bool.{eq-eqb, eqb-true, false≢true, le-ltb, lt-ltb}
 use Rattle.std.proofs.Math.Bool.{or-false, or-true, and-true, and-false}
-use Rattle.af_base.specs.World.{Map}
+use Rattle.af_base.specs.World.{Map, File, World, empty_world, is_live}
 use Rattle.af_base.proofs.Lookups.{insert-here, insert-other, same_or_not, told_apart}
 use Rattle.af_base.proofs.DerivedEquality.{both}
+use Rattle.af_base.specs.Changes.{add_file}
+use Rattle.af_base.specs.Unheld.{without}
+use Rattle.af_base.proofs.SettledWorlds.{live-without}
 use Rattle.af_mark.specs.MarksView.{blackened, born, forgotten, is_grey, is_grey_color, is_mark, is_marked, is_white, knows, MarksView, shaded}
 use Rattle.af_mark.specs.declared.color.Color.{Color}
 use Rattle.af_mark.specs.declared.color.Color.TheVariants.{Black, Grey, White}
 use Rattle.af_collect.specs.Since.{also, also_grey, but}
+use Rattle.af_collect.specs.Keeping.{AreKnown}
 
 -- It does not matter which of two numbers is compared with the other.
 pub turned : (x f : ℕ) → nat_eq x f ≡ nat_eq f x
@@ -255,3 +259,33 @@ module _ (m : MarksView) (x : ℕ) (stranger : knows m x ≡ false) where
   -- Where a file is born the same files are grey.
   pub grey_born : is_grey (born x m) ≡ is_grey m
   grey_born = λ i f. same_test is_grey_color refl f i
+
+-- Where the same files are live, the marks know them still.
+pub known_world : (v w : World) (m : MarksView) → ((f : ℕ) → is_live v f ≡ is_live w f) → AreKnown w m → AreKnown v m
+known_world v w m live h f = h f ∙ sym (live f)
+
+-- Marks that know the same know the live files too.
+pub known_marks : (w : World) (m n : MarksView) → ((f : ℕ) → knows n f ≡ knows m f) → AreKnown w m → AreKnown w n
+known_marks w m n same h f = same f ∙ h f
+
+-- A map with a value put in has it, beside what it had.
+has_put : {X : Type 0} (m : Map X) (k : ℕ) (v : X) (f : ℕ) → map.contains_key (map.insert m k v) f ≡ cond (nat_eq f k) true (map.contains_key m f)
+has_put m k v f = ap is_some (map.get-insert nat_cmp_total m k v f ∙ ap (λ b. cond b (Some v) (map.get m f)) (unsigned_tied f k)) ∙ by (nat_eq f k) where
+  by : (b : Bool) → is_some (cond b (Some v) (map.get m f)) ≡ cond b true (map.contains_key m f)
+  by true = refl
+  by false = refl
+
+-- Where a file is made, the marks with it born know the live files.
+pub known_made : (w : World) (x : File) (m : MarksView) → AreKnown w m → AreKnown (add_file w x) (born w.next_ino m)
+known_made w x m h f = has_put m.colors w.next_ino White f ∙ ap (cond (nat_eq f w.next_ino) true) (h f) ∙ sym (has_put w.files w.next_ino x f)
+
+-- Where a file is gone, the marks with it forgotten know the live files.
+pub known_gone : (w : World) (x : ℕ) (m : MarksView) → AreKnown w m → AreKnown (without (nat_eq x) w) (forgotten x m)
+known_gone w x m h f = knows_forgotten m x f ∙ ap (λ b. b && not (nat_eq x f)) (h f) ∙ by (nat_eq x f) (is_live w f) ∙ sym (live-without (nat_eq x) w f) where
+  by : (b l : Bool) → (l && not b) ≡ cond (not b) l false
+  by true l = and-false l
+  by false l = and-true l
+
+-- Marks without a colour know the live files of the empty world: none.
+pub known_empty : (m : MarksView) → m.colors ≡ map.empty → AreKnown empty_world m
+known_empty m none f = ap (λ cs. map.contains_key cs f) none ∙ ap is_some (map.get-empty nat_cmp f) ∙ sym (ap is_some (map.get-empty nat_cmp f))

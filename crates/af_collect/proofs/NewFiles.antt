@@ -35,15 +35,14 @@ use Rattle.af_mark.specs.MarksView.{born, is_marked}
 use Rattle.af_table.specs.Procs.{Procs}
 use Rattle.af_collect.specs.Agreement.{IsExact}
 use Rattle.af_collect.specs.Limits.{IsBelowLimit}
-use Rattle.af_collect.proofs.Connects.{exact-embryo, exact-queued}
+use Rattle.af_collect.proofs.SocketStates.{exact-embryo, exact-queued}
 use Rattle.af_collect.proofs.Exact.{exact-install, exact-install_all, exact-pair, world-is}
 use Rattle.af_collect.proofs.ProcessTables.{insert_twice}
 use Rattle.af_collect.proofs.Sends.{is-socket}
 use Rattle.af_collect.specs.Keeping.{below}
 use Rattle.af_collect.specs.StoreView.{StoreView}
-use Rattle.af_collect.proofs.NewFilePlaces.{below-add_file}
+use Rattle.af_collect.proofs.SocketChanges.{below-add_file, covers_queued, covers_same, moves_queued, moves_same}
 use Rattle.af_collect.proofs.TablePlaces.{covers_install, covers_install_lowest, moves_install, moves_install_files}
-use Rattle.af_collect.proofs.SocketChanges.{covers_queued, covers_same, moves_queued, moves_same}
 use Rattle.af_collect.specs.contracts.holdings.Holdings.{the_view}
 use Rattle.af_collect.specs.declared.holdings.Holdings.TheInside.{Inside}
 use Rattle.af_collect.specs.declared.collector.Collector.{Collector}

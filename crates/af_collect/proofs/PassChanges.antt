@@ -23,11 +23,9 @@ use Rattle.af_collect.specs.declared.progress.PassProgress.{PassProgress}
 use Rattle.af_collect.specs.Since.{AreCounted, Covers, IsMarking, IsSince, IsSweeping, Moves, is_scanned, is_socket_at}
 use Rattle.af_collect.specs.Keeping.{AreKnown, after_visit, IsInMarking, IsInSweeping, PassInvariant, IsRunning, IsStage, below, counted, is_counted, is_due, is_marking, is_running, is_sweeping, shaded_all, units_of}
 use Rattle.af_collect.proofs.PassFrees.{counted_drop, is_reclaimed, marking_drop, never_garbage, since_drop, sweeping_drop}
-use Rattle.af_collect.proofs.KnownFiles.{known_gone, known_marks, known_world}
-use Rattle.af_collect.proofs.MarkTests.{bound_blackened, bound_shaded, grey_blackened, grey_forgotten, grey_marked, grey_shaded, knows_blackened, knows_shaded, marked_blackened, marked_forgotten, marked_known, marked_shaded, shaded_beyond, shaded_black, shaded_grey}
-use Rattle.af_collect.proofs.PlaceMoves.{counted_moves, marking_moves, since_moves, sweeping_moves}
+use Rattle.af_collect.proofs.MarkTests.{known_gone, known_marks, known_world, bound_blackened, bound_shaded, grey_blackened, grey_forgotten, grey_marked, grey_shaded, knows_blackened, knows_shaded, marked_blackened, marked_forgotten, marked_known, marked_shaded, shaded_beyond, shaded_black, shaded_grey}
+use Rattle.af_collect.proofs.PassUnits.{counted_moves, marking_moves, since_moves, sweeping_moves, scan_counted, scan_marking, shade_counted, shade_marking, skip_counted, skip_marking, sweep_counted, visit_counted, visit_marking}
 use Rattle.af_collect.proofs.ShadedMarks.{all_marked, bound_shaded_all, itself_marked, shaded_all_after, stays_grey_all, stays_marked_all}
-use Rattle.af_collect.proofs.PassUnits.{scan_counted, scan_marking, shade_counted, shade_marking, skip_counted, skip_marking, sweep_counted, visit_counted, visit_marking}
 use Rattle.af_collect.proofs.PassStages.{counted_begin, marking_begin, moves_sweep, none_left, reclaimed_all, reclaimed_none, since_begin, sweeping_begin, sweeping_marked, sweeping_sweep}
 
 -- Marking continues in one stage only.

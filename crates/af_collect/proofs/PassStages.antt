@@ -1,23 +1,76 @@
 -- Where a pass begins, where marking ends, a file is swept, and where all are.
-use Rattle.std.proofs.Common.{◌≡◌, ◌<◌, ◌≤◌, ℕ, ◌+◌, Bool, true, false, not, ◌&&◌, inl, inr, List, [], ◌∷◌, refl, sym, ap, ◌∙◌, subst, nat_eq, arith, zero-add}
+use Rattle.std.proofs.Common.{◌≡◌, ◌<◌, ℕ, Bool, true, false, not, ◌&&◌, ◌↔◌, refl, sym, ap, ◌∙◌, inl, inr, ◌≤◌, ◌+◌, List, [], ◌∷◌, subst, nat_eq, arith, zero-add}
+use Rattle.std.proofs.lemmas.Bool.{false≢true, cases_Bool, eqb-true}
 use Rattle.std.specs.Prelude.{Option, Some, None, option_map, is_some, if◌then◌else◌}
 use Rattle.std.specs.Option.{option_map_or}
 use Rattle.std.specs.List.{count_by}
 use Rattle.std.specs.FinMap as map
-use Rattle.std.proofs.lemmas.Bool.{cases_Bool, eqb-true, false≢true}
 use Rattle.std.proofs.lemmas.List.Sums.{count_by-le-length}
 use Rattle.std.proofs.Math.Bool.{and-false}
-use Rattle.af_base.specs.World.{AsSocket, File, IsLive, Plain, World, is_live}
+use Rattle.af_base.specs.World.{World, IsLive, is_live, AsSocket, File, Plain}
+use Rattle.af_base.specs.Places.{InTable}
+use Rattle.af_base.specs.Reached.{ByTable, BySocket, Garbage, Reached, IsGarbageCount, is_socket}
 use Rattle.af_base.specs.Unheld.{Goes, IsSettled}
 use Rattle.af_base.specs.Pass.{emptied, empty_file}
-use Rattle.af_base.specs.Reached.{ByTable, BySocket, Garbage, IsGarbageCount, is_socket}
 use Rattle.af_base.specs.Whole.{IsSound}
 use Rattle.af_base.proofs.PurgeOrder.{from_emptied, get-emptied, live-emptied}
-use Rattle.af_collect.specs.Since.{AreCounted, IsMarking, IsSince, IsSweeping, Moves, NoneStray, is_scanned, is_socket_at, left_count, live_count}
+use Rattle.af_collect.specs.Since.{AreMarks, is_scanned, AreCounted, IsMarking, IsSince, IsSweeping, Moves, NoneStray, is_socket_at, left_count, live_count}
 use Rattle.af_collect.proofs.PassFrees.{holder_live}
-use Rattle.af_collect.proofs.PlaceMoves.{sweeping_moves}
+use Rattle.af_collect.proofs.PassUnits.{sweeping_moves}
 use Rattle.af_collect.proofs.Tallies.{count_same}
-use Rattle.af_collect.proofs.Unmarked.{exact, is_left, left_garbage}
+
+module _ {begun now : World} {marked grey visited : ℕ → Bool} (bound : ℕ) (m : AreMarks begun now marked grey visited)
+    (all_visited : (f : ℕ) → f < bound → visited f ≡ true) (none_grey : (f : ℕ) → grey f ≡ false)
+    (below : (f : ℕ) → InTable begun f → f < bound) where
+  -- Where none is grey, what is marked was scanned.
+  scanned : (s : ℕ) → marked s ≡ true → is_scanned marked grey s ≡ true
+  scanned s e = ap (λ b. b && not (grey s)) e ∙ ap not (none_grey s)
+
+  -- Where marking has ended, what was reached is marked, or gone.
+  pub reached_marked : (f : ℕ) → Reached begun f → IsLive now f → marked f ≡ true
+  reached_marked _ (ByTable f t) live =
+      elim (m.tables f t) [
+        | inl e ↦ e
+        | inr (inl gone) ↦ absurd (false≢true (sym gone ∙ live))
+        | inr (inr waits) ↦ absurd (false≢true (sym waits.0 ∙ all_visited f (below f t)))
+      ]
+  reached_marked _ (BySocket s f r h) live =
+      elim (m.queues s f r h) [
+        | inl e ↦ e
+        | inr (inl gone) ↦ absurd (false≢true (sym gone ∙ live))
+        | inr (inr waits) ↦ absurd (false≢true (sym waits.1 ∙ scanned s (reached_marked s r waits.0)))
+      ]
+
+  -- Where marking has ended, a file of the begin that lives is not marked exactly where it was
+  -- garbage.
+  pub exact : (f : ℕ) → IsLive begun f → IsLive now f → (marked f ≡ false) ↔ Garbage begun f
+  exact f was live = (λ e. (was, λ r. false≢true (sym e ∙ reached_marked f r live)), λ g. m.only_reached f g)
+
+-- Three tests together.
+all_three : (a b c : Bool) → (a && (b && not c)) ≡ true → (a ≡ true) × (b ≡ true) × (c ≡ false)
+all_three true true false e = (refl, refl, refl)
+all_three true true true e = absurd (false≢true e)
+all_three true false c e = absurd (false≢true e)
+all_three false b c e = absurd (false≢true e)
+
+-- No garbage was lost before.
+module _ {begun now : World} {marked grey visited : ℕ → Bool} (bound : ℕ) (m : AreMarks begun now marked grey visited)
+    (all_visited : (f : ℕ) → f < bound → visited f ≡ true) (none_grey : (f : ℕ) → grey f ≡ false)
+    (below : (f : ℕ) → InTable begun f → f < bound) (kept : (f : ℕ) → Garbage begun f → IsLive now f) where
+  -- Whether the file was live, is live, and is not marked.
+  abbrev pub is_left : ℕ → Bool
+  is_left f = is_live begun f && (is_live now f && not (marked f))
+
+  -- Where marking has ended and no garbage was lost, what is live and not marked is the garbage.
+  pub left_garbage : (f : ℕ) → (is_left f ≡ true) ↔ Garbage begun f
+  left_garbage f = (to, from) where
+    to : is_left f ≡ true → Garbage begun f
+    to e =
+        let first = all_three (is_live begun f) (is_live now f) (marked f) e in
+        (exact bound m all_visited none_grey below f first.0 first.1).0 first.2
+
+    from : Garbage begun f → is_left f ≡ true
+    from g = ap (λ b. b && (is_live now f && not (marked f))) g.0 ∙ ap (λ b. b && not (marked f)) (kept f g) ∙ ap not (m.only_reached f g)
 
 -- Nothing passes a test that always fails.
 count_none : {X : Type 0} (es : List X) → count_by (λ _. false) es ≡ 0

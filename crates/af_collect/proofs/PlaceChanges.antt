@@ -26,12 +26,10 @@ use Rattle.af_collect.specs.declared.progress.Stage.TheVariants.{Marking, Restin
 use Rattle.af_collect.specs.declared.progress.PassProgress.{PassProgress}
 use Rattle.af_collect.specs.Since.{Covers, Moves}
 use Rattle.af_collect.specs.Keeping.{PassInvariant, IsRunning, NotBegunGarbage, below, is_marking, is_running, pass_of, shaded_all, shaded_in}
-use Rattle.af_collect.proofs.NewFilePlaces.{AreFilesBelow, covers_add_file, moves_add_file}
+use Rattle.af_collect.proofs.SocketChanges.{AreFilesBelow, covers_add_file, moves_add_file, covers_receive, moves_receive}
 use Rattle.af_collect.proofs.PassChanges.{in_marking, in_sweeping, kept_born, kept_moves, kept_shaded_all}
-use Rattle.af_collect.proofs.KnownFiles.{known_made}
-use Rattle.af_collect.proofs.MarkTests.{grey_born, marked_born}
+use Rattle.af_collect.proofs.MarkTests.{known_made, grey_born, marked_born}
 use Rattle.af_collect.proofs.TablePlaces.{covers_install_lowest, covers_limited, moves_install_files, moves_limited}
-use Rattle.af_collect.proofs.SocketChanges.{covers_receive, moves_receive}
 use Rattle.af_collect.proofs.SparedFiles.{held_spared, marking_runs, spared_running}
 use Rattle.af_collect.proofs.LostFiles.{marked_there}
 

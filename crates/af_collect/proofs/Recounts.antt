@@ -1,20 +1,43 @@
 -- How each change of a world changes a single recount.
-use Rattle.std.proofs.Common.{◌≡◌, ℕ, ◌+◌, inl, inr, List, [], ◌∷◌, ◌++◌, drop, refl, sym, ap, ◌∙◌, arith}
+use Rattle.std.proofs.Common.{◌≡◌, ◌<◌, ℕ, ◌+◌, List, ◌∷◌, sym, ap, ◌∙◌, inl, inr, [], ◌++◌, drop, refl, arith}
+use Rattle.std.specs.List.{sum_by}
+use Rattle.std.proofs.lemmas.List.Sums.{sum_by-cons, sum_by-append}
 use Rattle.std.specs.Prelude.{Option, Some, None}
 use Rattle.std.specs.Option.{option_map_or}
-use Rattle.std.specs.List.{sum_by}
 use Rattle.std.specs.FinMap as map
-use Rattle.std.proofs.lemmas.List.Sums.{sum_by-cons, sum_by-append}
-use Rattle.af_base.specs.World.{AsSocket, Map, Message, Process, Socket, World}
-use Rattle.af_base.specs.Places.{backlog_of, queue_of}
+use Rattle.af_base.specs.declared.events.SockType.{SockType}
+use Rattle.af_base.specs.World.{Message, AsSocket, Map, Process, Socket, World}
 use Rattle.af_base.specs.Counts.{charge, charged, count_in, one, tabled, total_of, waiting}
+use Rattle.af_base.specs.Take.{take_from}
+use Rattle.af_base.proofs.ReceivedFiles.{AreWithin, Leaves, have-bytes, leaves-first, leaves-taken}
+use Rattle.af_base.specs.Places.{backlog_of, queue_of}
 use Rattle.af_base.specs.Changes.{dequeued, file_with, install, push_message, uninstall, with_queue, with_socket}
 use Rattle.af_base.proofs.PlacesAndCounts.{count-cons}
 use Rattle.af_base.proofs.Lookups.{none_some, remove-here, remove-other, same_or_not}
 use Rattle.af_base.proofs.Places.{refs-install, refs-uninstall}
 use Rattle.af_base.proofs.Sums.{total-change_at, total-insert, total-remove}
 use Rattle.af_base.proofs.Totals.{total-same}
-use Rattle.af_collect.proofs.QueueRests.{Sheds}
+use Rattle.af_queue.specs.TakenView.{received}
+use Rattle.af_queue.proofs.Charges.{charges-taken}
+
+-- A message was taken out of a queue: its files, and their charge, have left the queue.
+pub record Sheds (q : List Message) (m : Message) (rest : List Message) : Type 0 where
+  pub leaves : Leaves q m.attached rest
+  pub charged : (u : ℕ) → charge u m + sum_by (charge u) rest ≡ sum_by (charge u) q
+
+-- The first message taken.
+pub sheds-first : (q : List Message) (m : Message) (rest : List Message) → AreWithin q → q ≡ m ∷ rest → Sheds q m rest
+sheds-first q m rest k is = record {
+  leaves = leaves-first q m rest k is;
+  charged = λ u. sym (ap (sum_by (charge u)) is ∙ sum_by-cons (charge u) m rest);
+}
+
+-- The result of a receive.
+pub sheds-taken : (kind : SockType) (q : List Message) (n : ℕ) → 0 < n → AreWithin q → Sheds q (received kind q n).message (take_from kind q n).rest
+sheds-taken kind q n some k = record {
+  leaves = leaves-taken kind q n k;
+  charged = charges-taken kind q n some (have-bytes q k);
+}
 
 -- A new descriptor is one reference more.
 pub tabled-install : (w : World) (p n g f : ℕ) (q : Process) → map.get w.processes p ≡ Some q → map.get q.table n ≡ None → tabled (install w p n g) f ≡ tabled w f + one f g

@@ -1,31 +1,37 @@
--- A socket that is made, gets a name or listens: the store stays exact.
-use Rattle.std.proofs.Common.{◌≡◌, ◌≤◌, ℕ, true, false, List, [], length, refl, sym, ap, ◌∙◌, subst, arith}
+-- A socket that is made, named, listens, is connected or accepted: the store stays exact.
+use Rattle.std.proofs.Common.{◌≡◌, ◌≤◌, ℕ, true, false, List, [], length, refl, sym, ap, ◌∙◌, subst, arith, ◌<◌, cond, nat_eq, ◌∷◌, drop}
 use Rattle.std.specs.Prelude.{Option, Some, None, IfSome}
 use Rattle.std.specs.Option.{option_and_then, option_map_or}
-use Rattle.std.specs.List.{sum_by}
+use Rattle.std.specs.List.{sum_by, Contains}
 use Rattle.std.specs.FinMap as map
 use Rattle.std.proofs.lemmas.List.{nil_from_length}
 use Rattle.af_base.specs.declared.events.SockType.{SockType}
 use Rattle.af_base.specs.declared.events.State.TheVariants as state
-use Rattle.af_base.specs.declared.limits.TheConstants.{MAX_BACKLOG}
-use Rattle.af_base.specs.World.{AsSocket, File, Message, Plain, Socket, World}
-use Rattle.af_base.specs.Places.{attached_in, queue_of}
-use Rattle.af_base.specs.Counts.{charge, count_in, total_of}
-use Rattle.af_base.specs.Changes.{add_file, file_with, listening, with_name, with_socket}
+use Rattle.af_base.specs.declared.limits.TheConstants.{MAX_BACKLOG, MAX_NOFILE}
+use Rattle.af_base.specs.World.{AsSocket, File, Message, Plain, Socket, World, IsLive, Process}
+use Rattle.af_base.specs.Places.{attached_in, queue_of, backlog_at}
+use Rattle.af_base.specs.Counts.{charge, count_in, total_of, waiting}
+use Rattle.af_base.specs.Changes.{add_file, file_with, listening, with_name, with_socket, connected, queued, dequeued, install}
 use Rattle.af_base.specs.Names.{is_name, named}
 use Rattle.af_base.specs.Refusals.{is_full, room_of, socket_at, socket_of}
-use Rattle.af_base.specs.Steps.{idle_socket}
+use Rattle.af_base.specs.Steps.{idle_socket, connected_socket}
 use Rattle.af_base.specs.Whole.{IsWhole, IsWithin}
-use Rattle.af_base.proofs.Connections.{whole-bound, whole-listening, within-bound, within-listening}
-use Rattle.af_base.proofs.Embryos.{waiting-changed}
+use Rattle.af_base.proofs.Connections.{whole-bound, whole-listening, within-bound, within-listening, whole-made, whole-queued, within-made, within-queued, live-embryo}
+use Rattle.af_base.proofs.Embryos.{waiting-changed, waiting-queued}
 use Rattle.af_base.proofs.PlaceMoves.{live-changed, total-changed}
 use Rattle.af_base.proofs.SocketNames.{named-none}
 use Rattle.af_base.proofs.BlankFiles.{blank-idle, whole-blank, within-blank}
 use Rattle.af_base.proofs.Trees.{insert_same}
+use Rattle.af_base.proofs.NewFiles.{fresh_file}
+use Rattle.af_base.proofs.Elements.{Contains-first}
 use Rattle.af_ledger.specs.Counted.{uncounted}
-use Rattle.af_ledger.specs.Tally.{Tally}
+use Rattle.af_ledger.specs.Tally.{Tally, with_ref, without_ref}
+use Rattle.af_ledger.specs.declared.place.Place.TheVariants.{Backlog, Table}
+use Rattle.af_ledger.proofs.Laws.{has-entered, has-held, inflight-backlogged, tabled-backlogged, waiting-backlogged}
 use Rattle.af_collect.specs.Agreement.{Agrees, IsExact}
-use Rattle.af_collect.proofs.Exact.{exact-made}
+use Rattle.af_collect.proofs.Exact.{exact-made, live-added, next-new, exact-dequeued, exact-install}
+use Rattle.af_collect.proofs.Agreement.{agrees-entered, agrees-new_file}
+use Rattle.af_collect.proofs.LossOutcomes.{first-embryo}
 
 -- A socket more that was never connected, which waits.
 pub exact-idle : (w : World) (kind : SockType) (k : Tally) → is_full w 1 ≡ false → IsExact w k
@@ -94,3 +100,53 @@ idle-alone w s k = by (map.get w.files s) refl where
       let none : room_of x.state ≡ 0 = ap room_of h in
       let most = (k.sockets s x e).backlog in
       nil_from_length x.backlog (omega (arith, none, most))
+
+-- An embryo more, which waits for its place in a backlog, and the client that is connected to it.
+pub exact-embryo : (w : World) (c : ℕ) (kind : SockType) (x : Socket) (k : Tally) → map.get w.files c ≡ Some (AsSocket x) → x.state ≡ state.Idle → is_full w 1 ≡ false → IsExact w k
+    → IsExact (with_socket (add_file w (AsSocket (connected_socket kind c))) c (connected w.next_ino)) (record k { counts = map.insert k.counts w.next_ino uncounted })
+exact-embryo w c kind x k at idle fits h =
+    let n = w.next_ino in
+    let embryo = AsSocket (connected_socket kind c) in
+    let base = add_file w embryo in
+    let grown : Tally = record k { counts = map.insert k.counts n uncounted } in
+    let stranger = next-new w k n h (omega arith) in
+    let more = agrees-new_file w embryo k (fresh_file w n h.whole (omega arith)) refl refl h.agrees in
+    record {
+      whole = whole-made w c kind x h.whole at idle;
+      within = within-made w c kind x h.whole at idle h.within fits;
+      agrees = agrees-altered base c (connected n) (λ y. refl) (λ y. refl) grown (agrees-entered base n k stranger more);
+      counted = λ g. has-entered k n g ∙ ap (cond (nat_eq g n) true) (h.counted g) ∙ sym (live-added w embryo g) ∙ sym (live-changed base c (connected n) g);
+    }
+
+-- An embryo more in a backlog is a place more there.
+agrees-queued : (w : World) (s n : ℕ) (x : Socket) (k : Tally) → map.get w.files s ≡ Some (AsSocket x) → Agrees w k → Agrees (with_socket w s (queued n)) (with_ref Backlog n k)
+agrees-queued w s n x k at a = record {
+  tabled = λ g. tabled-backlogged n g k ∙ a.tabled g;
+  inflight = λ g. inflight-backlogged n g k ∙ a.inflight g ∙ sym (total-changed (λ y. count_in g (attached_in (queue_of y))) w s (queued n) (λ y. refl));
+  waiting = λ g. omega (arith, waiting-backlogged n g k, waiting-queued w s n x at g, a.waiting g);
+  charged = λ u. a.charged u ∙ sym (total-changed (λ y. sum_by (charge u) (queue_of y)) w s (queued n) (λ y. refl));
+  total = a.total ∙ sym (total-changed (λ y. sum_by (λ m. length m.attached) (queue_of y)) w s (queued n) (λ y. refl));
+  known = a.known;
+}
+
+-- A live file that waits nowhere comes into a backlog that has room for it.
+pub exact-queued : (w : World) (s n : ℕ) (x : Socket) (k : Tally) → map.get w.files s ≡ Some (AsSocket x) → IsLive w n → waiting w n ≡ 0 → length x.backlog < room_of x.state → IsExact w k → IsExact (with_socket w s (queued n)) (with_ref Backlog n k)
+exact-queued w s n x k at live none room h = record {
+  whole = whole-queued w s n x at live none h.whole;
+  within = within-queued w s n x h.within at room;
+  agrees = agrees-queued w s n x k at h.agrees;
+  counted = λ g. has-held Backlog n g k (h.counted n ∙ live) ∙ h.counted g ∙ sym (live-changed w s (queued n) g);
+}
+
+-- The listener whose first embryo was taken out of its backlog.
+pub embryo-taken : (w : World) (s f : ℕ) (o : Option ℕ) → o ≡ Some f → IfSome o (λ g. backlog_at w s ≡ g ∷ drop 1 (backlog_at w s)) → (x : Socket) × (map.get w.files s ≡ Some (AsSocket x)) × (x.backlog ≡ f ∷ drop 1 x.backlog)
+embryo-taken w s f o is some = first-embryo w s f (subst (λ o. IfSome o (λ g. backlog_at w s ≡ g ∷ drop 1 (backlog_at w s))) is some)
+
+module _ (w : World) (s f : ℕ) (x : Socket) (k : Tally) (at : map.get w.files s ≡ Some (AsSocket x)) (first : x.backlog ≡ f ∷ drop 1 x.backlog) (h : IsExact w k) where
+  -- The first embryo is live.
+  live-first : IsLive w f
+  live-first = live-embryo w s f x h.whole at (subst (λ xs. Contains xs f) (sym first) (Contains-first f (drop 1 x.backlog)))
+
+  -- It comes into the table, at a free number, and leaves the backlog.
+  pub exact-accepted : (p n : ℕ) (q : Process) → map.get w.processes p ≡ Some q → map.get q.table n ≡ None → n < MAX_NOFILE → IsExact (install (with_socket w s dequeued) p n f) (without_ref Backlog f (with_ref Table f k))
+  exact-accepted p n q there free low = exact-dequeued (install w p n f) s f x (with_ref Table f k) at first (exact-install w p n f q k there free low live-first h)

@@ -1,20 +1,22 @@
--- The pass that a caller sees, and what it counts.
-use Rattle.std.proofs.Common.{◌≡◌, ◌+◌, ◌&&◌, ℕ, Bool, true, false, not, refl, ap, ◌∙◌, nat_lt}
-use Rattle.std.specs.Prelude.{Option, Some, None, is_some, if◌then◌else◌}
+-- The pass that a caller sees, what it counts, and what a slice answers.
+use Rattle.std.proofs.Common.{◌≡◌, ◌+◌, ◌&&◌, ℕ, Bool, true, false, not, refl, ap, ◌∙◌, nat_lt, inr}
+use Rattle.std.specs.Prelude.{Option, Some, None, is_some, if◌then◌else◌, IsTrue}
 use Rattle.std.specs.FinMap as map
 use Rattle.std.specs.Option.{option_and_then, option_map_or}
 use Rattle.std.proofs.Math.Bool.{and_comm}
 use Rattle.std.proofs.lemmas.Bool.{false≢true}
-use Rattle.af_base.specs.World.{AsSocket, File, Plain, World}
-use Rattle.af_base.specs.Pass.{Idle, Pass, Running}
-use Rattle.af_base.specs.Reached.{is_socket}
+use Rattle.af_base.specs.World.{AsSocket, File, Plain, World, IsLive}
+use Rattle.af_base.specs.Pass.{Idle, Pass, Running, Slices}
+use Rattle.af_base.specs.Reached.{is_socket, Garbage, IsGarbageCount}
 use Rattle.af_base.specs.Refusals.{socket_of}
-use Rattle.af_desc.specs.FilesView.{is_unmarked_socket}
+use Rattle.af_base.specs.declared.events.Reply.TheVariants as reply
 use Rattle.af_mark.specs.MarksView.{MarksView, is_marked, knows}
+use Rattle.af_desc.specs.FilesView.{is_unmarked_socket}
 use Rattle.af_collect.specs.declared.progress.Stage.{Stage}
 use Rattle.af_collect.specs.declared.progress.Stage.TheVariants.{Marking, Resting, Sweeping}
 use Rattle.af_collect.specs.declared.progress.PassProgress.{PassProgress}
-use Rattle.af_collect.specs.Keeping.{counted, is_sweeping, pass_of, runs}
+use Rattle.af_collect.specs.Keeping.{counted, is_sweeping, pass_of, runs, is_running}
+use Rattle.af_collect.specs.Purged.{ArePurged}
 
 -- The world at the begin of a pass that runs.
 begun_of : World → Pass → World
@@ -38,3 +40,20 @@ counted_gone w m c f unmarked known is = ap (λ b. record c { reclaimed = c.recl
 
   same : is_unmarked_socket w.files m f ≡ (option_map_or is_socket (map.get w.files f) false && (nat_lt f m.bound && not (is_marked m f)))
   same = λ i. by (map.get w.files f) i && (nat_lt f m.bound && (known i && not (is_marked m f)))
+
+-- The pass that a caller sees, where one runs.
+running : (t : Stage) (begun : World) (spent : ℕ) → IsTrue (is_running t) → pass_of t begun spent ≡ Running begun spent
+running Resting begun spent e = absurd (false≢true e)
+running Marking begun spent e = refl
+running Sweeping begun spent e = refl
+
+-- A slice that ends the pass, where none of the garbage of the begin is live.
+pub slices_done : (begun begun' w v : World) (k k' b pass n : ℕ) → ArePurged begun w v b → ((f : ℕ) → Garbage begun f → ¬ (IsLive v f)) → IsGarbageCount begun n
+    → Slices begun w k b pass (reply.Done pass n) v (pass_of Resting begun' k')
+slices_done begun begun' w v k k' b pass n p none count = record {
+  emptied_files = p.files;
+  few = p.few;
+  of_garbage = p.of_garbage;
+  purged = p.purged;
+  answered = inr (n, count, refl, refl, none);
+}

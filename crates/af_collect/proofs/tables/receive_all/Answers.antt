@@ -18,9 +18,8 @@ use Rattle.af_ledger.proofs.MovedPlaces.{dropped-alike, moved-first}
 use Rattle.af_table.specs.Procs.{row_in}
 use Rattle.af_table.specs.Slots.{ProcessView}
 use Rattle.af_collect.specs.HoldingsView.{filled}
-use Rattle.af_collect.proofs.CountChanges.{counts-alone, moved-is}
+use Rattle.af_collect.proofs.CountChanges.{counts-alone, moved-is, charges-filled, no-files, no-numbers}
 use Rattle.af_collect.proofs.LentProcesses.{back-again}
-use Rattle.af_collect.proofs.TableFills.{charges-filled, no-files, no-numbers}
 use Rattle.af_collect.proofs.tables.receive_all.Goals as goal
 
 -- The file that the loop is at, and those behind it.

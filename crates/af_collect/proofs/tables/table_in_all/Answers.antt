@@ -14,9 +14,8 @@ use Rattle.af_ledger.proofs.Laws.{has-held, tabled-tabled}
 use Rattle.af_table.specs.Procs.{row_in}
 use Rattle.af_table.specs.Slots.{ProcessView}
 use Rattle.af_collect.specs.HoldingsView.{filled}
-use Rattle.af_collect.proofs.CountChanges.{counts-alone}
+use Rattle.af_collect.proofs.CountChanges.{counts-alone, no-files, no-numbers}
 use Rattle.af_collect.proofs.LentProcesses.{back-again}
-use Rattle.af_collect.proofs.TableFills.{no-files, no-numbers}
 use Rattle.af_collect.proofs.tables.table_in_all.Goals as goal
 
 pub loop-fd-init : goal.loop-fd-init

@@ -3,8 +3,7 @@ use Rattle.af_base.specs.Unheld.{Settles}
 use Rattle.af_base.proofs.SettledPlaces.{settles-without}
 use Rattle.af_base.proofs.SettledWorlds.{settles_none}
 use Rattle.af_collect.specs.HoldingsView.{HoldingsView}
-use Rattle.af_collect.proofs.FirstPlace.{burden-lost, none-held, none-silent, settles-lost}
-use Rattle.af_collect.proofs.LossOutcomes.{burden, burden-gone}
+use Rattle.af_collect.proofs.LossOutcomes.{burden-lost, none-held, none-silent, settles-lost, burden, burden-gone}
 use Rattle.af_collect.specs.declared.progress.PassProgress.{PassProgress}
 use Rattle.af_collect.proofs.collector.Collector.release.Goals as goal
 

@@ -8,7 +8,7 @@ use Rattle.af_collect.specs.contracts.holdings.Holdings.{the_view}
 use Rattle.af_collect.specs.HoldingsView.{AreExact}
 use Rattle.af_collect.proofs.Bounds.{can-drop-backlog}
 use Rattle.af_collect.proofs.Exact.{exact-dequeued, exact-same}
-use Rattle.af_collect.proofs.FirstPlace.{first-embryo, none-dequeued}
+use Rattle.af_collect.proofs.LossOutcomes.{first-embryo, none-dequeued}
 use Rattle.af_collect.proofs.holdings.Holdings.drop_embryo.Goals as goal
 
 pub invariant_of-self : goal.invariant_of-self

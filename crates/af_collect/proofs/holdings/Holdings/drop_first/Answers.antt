@@ -11,7 +11,7 @@ use Rattle.af_collect.specs.HoldingsView.{AreExact, HoldingsView}
 use Rattle.af_collect.specs.contracts.holdings.Holdings.{the_view}
 use Rattle.af_collect.proofs.Bounds.{can-drop-all}
 use Rattle.af_collect.proofs.Exact.{exact-same, exact-shed, world-is}
-use Rattle.af_collect.proofs.TakenMessages.{popped_queue}
+use Rattle.af_collect.proofs.Receives.{popped_queue}
 use Rattle.af_collect.proofs.LossOutcomes.{emptied-same, first-shed}
 use Rattle.af_collect.proofs.holdings.Holdings.drop_first.Goals as goal
 

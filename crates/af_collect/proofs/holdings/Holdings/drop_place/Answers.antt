@@ -3,8 +3,7 @@ use Rattle.af_base.specs.World.{World}
 use Rattle.af_base.specs.Places.{queue_at}
 use Rattle.af_base.specs.Changes.{dequeued, with_queue, with_socket}
 use Rattle.af_collect.specs.HoldingsView.{HoldingsView}
-use Rattle.af_collect.proofs.FirstPlace.{lost-embryo}
-use Rattle.af_collect.proofs.LossOutcomes.{none-popped}
+use Rattle.af_collect.proofs.LossOutcomes.{lost-embryo, none-popped}
 use Rattle.af_collect.proofs.holdings.Holdings.drop_place.Goals as goal
 
 -- Where there is no message, nothing but the room for one has changed so far.

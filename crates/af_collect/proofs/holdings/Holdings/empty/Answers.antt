@@ -1,8 +1,8 @@
 use Rattle.std.proofs.Common.{sym, ap, ◌∙◌, nat_eq}
 use Rattle.af_base.specs.Pass.{emptied}
 use Rattle.af_collect.specs.HoldingsView.{HoldingsView}
-use Rattle.af_collect.proofs.EmptiedFiles.{emptied-bare}
-use Rattle.af_collect.proofs.FirstPlace.{burden-lost, emptied-lost, none-held, none-silent}
+use Rattle.af_collect.proofs.FreedFiles.{emptied-bare}
+use Rattle.af_collect.proofs.LossOutcomes.{burden-lost, emptied-lost, none-held, none-silent}
 use Rattle.af_collect.proofs.holdings.Holdings.empty.Goals as goal
 
 pub loop-self-preserved : goal.loop-self-preserved

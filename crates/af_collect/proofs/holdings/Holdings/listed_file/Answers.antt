@@ -1,6 +1,6 @@
 use Rattle.std.proofs.Common.{sym, ◌∙◌}
 use Rattle.af_collect.specs.contracts.holdings.Holdings.{the_view}
-use Rattle.af_collect.proofs.LiveSockets.{backlog-few, socket-stands}
+use Rattle.af_collect.proofs.FreedFiles.{backlog-few, socket-stands}
 use Rattle.af_collect.proofs.holdings.Holdings.listed_file.Goals as goal
 
 pub listed_socket-requires : goal.listed_socket-requires

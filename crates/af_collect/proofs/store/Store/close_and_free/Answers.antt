@@ -5,7 +5,7 @@ use Rattle.af_base.specs.World.{World}
 use Rattle.af_desc.specs.FilesView.{FilesView}
 use Rattle.af_collect.specs.HoldingsView.{world_of}
 use Rattle.af_collect.specs.contracts.holdings.Holdings.{the_view}
-use Rattle.af_collect.proofs.ClosedDescriptors.{counted-closed, seen-unopened, settles-freed, stands-closed, stands-freed, stands-unopened, world-closed, world-freed}
+use Rattle.af_collect.proofs.Descriptors.{counted-closed, seen-unopened, settles-freed, stands-closed, stands-freed, stands-unopened, world-closed, world-freed}
 use Rattle.af_collect.proofs.StoreInvariant.{BothInvariants, seen-world, stood}
 use Rattle.af_collect.proofs.store.Store.close_and_free.Goals as goal
 

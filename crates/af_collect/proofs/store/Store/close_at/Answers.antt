@@ -1,5 +1,5 @@
 use Rattle.std.proofs.Common.{◌∙◌, sym, subst}
-use Rattle.af_collect.proofs.ClosedDescriptors.{counted-closed, seen-unopened, stands-closed, stands-unopened}
+use Rattle.af_collect.proofs.Descriptors.{counted-closed, seen-unopened, stands-closed, stands-unopened}
 use Rattle.af_collect.proofs.StoreInvariant.{BothInvariants, stood}
 use Rattle.af_collect.proofs.store.Store.close_at.Goals as goal
 

@@ -1,7 +1,7 @@
 use Rattle.std.proofs.Common.{subst, sym}
 use Rattle.af_base.specs.World.{World}
 use Rattle.af_collect.specs.Keeping.{AreKnown}
-use Rattle.af_collect.proofs.KnownFiles.{known_empty}
+use Rattle.af_collect.proofs.MarkTests.{known_empty}
 use Rattle.af_collect.proofs.store.Store.new.Goals as goal
 
 pub invariant_of-result : goal.invariant_of-result

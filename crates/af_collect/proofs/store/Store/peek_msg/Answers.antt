@@ -5,10 +5,9 @@ use Rattle.af_ledger.specs.Tally.{kept_of}
 use Rattle.af_collect.specs.Receiving.{taken_at}
 use Rattle.af_collect.specs.HoldingsView.{filled}
 use Rattle.af_collect.proofs.Exact.{exact-same, install-filled, world-is}
-use Rattle.af_collect.proofs.Receives.{counted, exact-tabled, received_at, tabled}
+use Rattle.af_collect.proofs.Receives.{counted, exact-tabled, received_at, tabled, files-fit, files-known, receives-within, spared-within}
 use Rattle.af_collect.specs.contracts.holdings.Holdings.{the_view}
 use Rattle.af_collect.proofs.PlaceChanges.{kept_peeked}
-use Rattle.af_collect.proofs.ReceiveNeeds.{files-fit, files-known, receives-within, spared-within}
 use Rattle.af_collect.proofs.StoreInvariant.{BothInvariants, both-same, seen-changed, shown, stood}
 use Rattle.af_collect.proofs.store.Store.peek_msg.Goals as goal
 

@@ -8,7 +8,7 @@ use Rattle.af_base.specs.World.{IsLive, World}
 use Rattle.af_desc.specs.FilesView.{changed}
 use Rattle.af_ledger.specs.Tally.{kept_of}
 use Rattle.af_mark.specs.MarksView.{is_marked}
-use Rattle.af_collect.proofs.Connects.{exact-queued}
+use Rattle.af_collect.proofs.SocketStates.{exact-queued}
 use Rattle.af_collect.proofs.Sends.{is-socket}
 use Rattle.af_collect.specs.Keeping.{NotBegunGarbage, below}
 use Rattle.af_collect.proofs.SocketChanges.{covers_queued, moves_queued}

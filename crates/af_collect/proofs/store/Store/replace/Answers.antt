@@ -6,7 +6,7 @@ use Rattle.af_desc.specs.FilesView.{with_file_ref}
 use Rattle.af_ledger.specs.Counted.{IsCountable}
 use Rattle.af_ledger.specs.Tally.{count_in_map}
 use Rattle.af_ledger.specs.declared.place.Place.TheVariants.{Table}
-use Rattle.af_collect.proofs.Replacements.{can-hold-left, counted-replaced, stands-replaced}
+use Rattle.af_collect.proofs.Descriptors.{can-hold-left, counted-replaced, stands-replaced}
 use Rattle.af_collect.proofs.StoreInvariant.{BothInvariants, stood}
 use Rattle.af_collect.proofs.store.Store.replace.Goals.{After-drop_replaced}
 use Rattle.af_collect.proofs.store.Store.replace.Goals as goal

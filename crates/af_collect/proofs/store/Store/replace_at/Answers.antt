@@ -11,7 +11,7 @@ use Rattle.af_ledger.specs.declared.place.Place.TheVariants.{Table}
 use Rattle.af_table.specs.Lending.{with_process}
 use Rattle.af_collect.specs.contracts.holdings.Holdings.{the_view}
 use Rattle.af_collect.proofs.LentProcesses.{back-changed}
-use Rattle.af_collect.proofs.Replacements.{can-hold-left, counted-replaced, stands-replaced}
+use Rattle.af_collect.proofs.Descriptors.{can-hold-left, counted-replaced, stands-replaced}
 use Rattle.af_collect.proofs.StoreInvariant.{BothInvariants, stood}
 use Rattle.af_collect.proofs.store.Store.replace_at.Goals.{After-drop_replaced, After-hold, After-replace-was}
 use Rattle.af_collect.proofs.store.Store.replace_at.Goals as goal

@@ -1,10 +1,9 @@
 use Rattle.std.proofs.Common.{◌∙◌, ap, subst, sym}
 use Rattle.af_base.specs.declared.events.Reply.TheVariants as reply
 use Rattle.af_base.specs.Pass.{Idle, Slices}
-use Rattle.af_collect.proofs.Slices.{slices_done}
+use Rattle.af_collect.proofs.VisiblePass.{slices_done, seen_begun}
 use Rattle.af_collect.specs.HoldingsView.{HoldingsView}
 use Rattle.af_collect.specs.StoreView.{StoreView}
-use Rattle.af_collect.proofs.VisiblePass.{seen_begun}
 use Rattle.af_collect.proofs.store.Store.slice.Goals as goal
 
 -- The pass is over: no garbage of its begin is left.

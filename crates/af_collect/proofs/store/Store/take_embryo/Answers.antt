@@ -16,7 +16,7 @@ use Rattle.af_ledger.specs.declared.place.Place.TheVariants.{Backlog, Table}
 use Rattle.af_mark.specs.MarksView.{is_marked}
 use Rattle.af_collect.specs.Limits.{IsBelowLimit}
 use Rattle.af_collect.specs.HoldingsView.{HoldingsView}
-use Rattle.af_collect.proofs.Accepts.{embryo-taken, exact-accepted}
+use Rattle.af_collect.proofs.SocketStates.{embryo-taken, exact-accepted}
 use Rattle.af_collect.proofs.Bounds.{can-drop-backlog, can-hold-table}
 use Rattle.af_collect.proofs.CountChanges.{moved-is}
 use Rattle.af_collect.proofs.Exact.{world-is}

@@ -10,12 +10,10 @@ use Rattle.af_ledger.proofs.ManyPlaces.{users-dropped_all}
 use Rattle.af_collect.specs.Receiving.{taken_at}
 use Rattle.af_collect.specs.HoldingsView.{filled}
 use Rattle.af_collect.proofs.Exact.{exact-same, install-filled, users-filled, world-is}
-use Rattle.af_collect.proofs.Receives.{can-drop-received, counted, exact-received, received_at, tabled}
-use Rattle.af_collect.proofs.TakenMessages.{taken_queue}
+use Rattle.af_collect.proofs.Receives.{can-drop-received, counted, exact-received, received_at, tabled, taken_queue, files-fit, receives-within, spared-within}
 use Rattle.af_collect.specs.Keeping.{shaded_in}
 use Rattle.af_collect.specs.contracts.holdings.Holdings.{the_view}
 use Rattle.af_collect.proofs.PlaceChanges.{kept_taken}
-use Rattle.af_collect.proofs.ReceiveNeeds.{files-fit, receives-within, spared-within}
 use Rattle.af_collect.proofs.StoreInvariant.{BothInvariants, both-same, seen-moved, shown, stood}
 use Rattle.af_collect.proofs.store.Store.take_msg.Goals as goal
 
