@@ -55,9 +55,7 @@ total-low F few (suc n) m low = low_step F few n (λ m low. total-low F few n m 
 pub tabled-most : (w : World) (f : ℕ) (k : Tally) → IsWithin w → Agrees w k → (count_of k f).tabled ≤ MAX_PROCESSES * MAX_NOFILE
 tabled-most w f k within agrees =
     let most : tabled w f ≤ map.len w.processes * MAX_NOFILE = total-most (λ q. total_of (one f) q.table) MAX_NOFILE w.processes each in
-    let few = within.process_count in
-    let same = agrees.tabled f in
-    omega (arith, most, few, same) where
+    omega (arith, most, within.process_count, agrees.tabled f) where
       each : (p : ℕ) (q : Process) → map.get w.processes p ≡ Some q → total_of (one f) q.table ≤ MAX_NOFILE
       each p q at =
           let fits = within.processes p q at in
@@ -92,24 +90,19 @@ can-hold-all w m k within room user known agrees = record {
 -- A descriptor of f is counted.
 pub can-drop-table : (w : World) (p n f : ℕ) (k : Tally) → table_at w p n ≡ Some f → Agrees w k → CanDrop Table f k
 can-drop-table w p n f k is agrees =
-    let some = tabled-InTable w f (p, n, is) in
-    let same = agrees.tabled f in
-    (omega (arith, some, same), tt)
+    (omega (arith, tabled-InTable w f (p, n, is), agrees.tabled f), tt)
 
 -- The first embryo of a backlog is counted.
 pub can-drop-backlog : (w : World) (s f : ℕ) (x : Socket) (k : Tally) → map.get w.files s ≡ Some (AsSocket x) → x.backlog ≡ f ∷ drop 1 x.backlog → Agrees w k → CanDrop Backlog f k
 can-drop-backlog w s f x k at first agrees =
-    let same = agrees.waiting f in
-    let mine = one-itself f in
-    (omega (arith, same, mine, waiting-dequeued w s f f x at first), tt)
+    (omega (arith, agrees.waiting f, one-itself f, waiting-dequeued w s f f x at first), tt)
 
 -- A message taken of a queue is counted and charged.
 pub can-drop-all : (w : World) (s : ℕ) (m : Message) (rest : List Message) (x : Socket) (k : Tally) → map.get w.files s ≡ Some (AsSocket x) → Sheds x.queue m rest → Agrees w k → CanDropAll m.user m.attached k
 can-drop-all w s m rest x k at shed agrees = record {
   counted = λ f. let same = agrees.inflight f in omega (arith, same, inflight-left w s m.attached rest f x at shed.leaves.carried);
   charge =
-      let same = agrees.charged m.user in
       let mine : charge m.user m ≡ length m.attached = ap {B = ℕ} (λ b. cond b (length m.attached) 0) (itself m.user) in
-      omega (arith, same, mine, charged-shed w s m rest m.user x at shed);
+      omega (arith, agrees.charged m.user, mine, charged-shed w s m rest m.user x at shed);
   total = let same = agrees.total in omega (arith, same, total-left w s x m.attached rest at shed.leaves);
 }

@@ -29,7 +29,7 @@ use Rattle.af_table.specs.Procs.{Procs}
 use Rattle.af_desc.specs.FilesView.{FilesView, with_file_ref}
 use Rattle.af_desc.specs.FilesView as desc
 use Rattle.af_collect.specs.Agreement.{IsExact}
-use Rattle.af_collect.proofs.Exact.{exact-install, exact-uninstall, world-is, exact-gone}
+use Rattle.af_collect.proofs.Exact.{exact-install, exact-uninstall, world-is, exact-gone, agrees-refs}
 use Rattle.af_collect.proofs.ProcessTables.{insert_twice}
 use Rattle.af_collect.specs.Limits.{IsBelowLimit}
 use Rattle.af_collect.specs.Keeping.{NotBegunGarbage, PassInvariant, below, is_marking, counted}
@@ -41,12 +41,10 @@ use Rattle.af_collect.specs.declared.collector.Collector.{Collector}
 use Rattle.af_collect.specs.declared.progress.Stage.{Stage}
 use Rattle.af_collect.proofs.Bounds.{can-drop-table, can-hold-table}
 use Rattle.af_collect.proofs.LostFiles.{kept_closed, marked_closed}
-use Rattle.af_collect.proofs.PlaceChanges.{kept_tables}
+use Rattle.af_collect.proofs.StoreInvariant.{kept_tables, BothInvariants, both-same, seen-world, shown}
 use Rattle.af_collect.proofs.SparedFiles.{spared_running}
-use Rattle.af_collect.proofs.StoreInvariant.{BothInvariants, both-same, seen-world, shown}
 use Rattle.af_collect.proofs.TablePlaces.{covers_replace, moves_install, covers_uninstall, moves_uninstall}
 use Rattle.af_collect.specs.HoldingsView.{HoldingsView, world_of}
-use Rattle.af_collect.proofs.Agreement.{agrees-refs}
 use Rattle.af_collect.proofs.FreedFiles.{gone_end}
 use Rattle.af_collect.proofs.LentProcesses.{seen-same, stands-same}
 use Rattle.af_collect.proofs.PassChanges.{kept_gone}
@@ -247,9 +245,8 @@ module _ (p : Collector) (h : Inside) (was : BothInvariants p h.procs h.files h.
         -- No place holds the file any more.
         unheld : refs closed f ≡ 0
         unheld =
-            let had = counted-closed in
             let now = ap (λ o. places_in (unwrap_or o uncounted)) (insert-here h.files.counts f (fewer Table (count_in_map h.files.counts f))) in
-            omega (arith, had, now, last, agrees-refs closed tally exact-closed.agrees f)
+            omega (arith, counted-closed, now, last, agrees-refs closed tally exact-closed.agrees f)
 
         -- The world is the one without the file then.
         pub world-freed : world_of procs (desc.freed f rest) h.ledger ≡ without (nat_eq f) closed

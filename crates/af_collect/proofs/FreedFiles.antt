@@ -2,10 +2,10 @@
 use Rattle.std.proofs.Common.{◌≡◌, ℕ, Bool, true, false, cond, List, [], ◌++◌, refl, sym, ap, ◌∙◌, subst, nat_eq, ◌≤◌, length, arith}
 use Rattle.std.specs.Prelude.{Option, Some, None, option_map, if◌then◌else◌}
 use Rattle.std.specs.Ordering.{nat_cmp, eq_by_cmp}
-use Rattle.std.specs.Cmp.{both_ways, nat_cmp_total, unsigned_tied}
+use Rattle.std.specs.Cmp.{nat_cmp_total, unsigned_tied}
 use Rattle.std.specs.FinMap as map
 use Rattle.std.specs.FinMap.{nat_cmp-IsAntisymmetric}
-use Rattle.std.proofs.lemmas.Bool.{eq-eqb, eqb-true}
+use Rattle.std.proofs.lemmas.Bool.{eqb-true}
 use Rattle.std.specs.Option.{option_map_or, option_and_then}
 use Rattle.std.proofs.lemmas.Option.{option_and_then_some}
 use Rattle.af_base.specs.World.{AsSocket, File, Message, Plain, Socket, World, Map}
@@ -23,10 +23,7 @@ use Rattle.af_base.proofs.Lookups.{some_same}
 use Rattle.af_base.proofs.FreedPeers.{without_one, drop_with}
 use Rattle.af_base.specs.declared.limits.TheConstants.{MAX_BACKLOG}
 use Rattle.af_desc.specs.FilesView.{after_end, after_hangup, socket_in}
-
--- It does not matter which of two numbers comes first.
-turned : (a b : ℕ) → nat_eq a b ≡ nat_eq b a
-turned a b = both_ways (nat_eq a b) (nat_eq b a) (λ e. eq-eqb b a (sym (eqb-true a b e))) (λ e. eq-eqb a b (sym (eqb-true b a e)))
+use Rattle.af_collect.proofs.MarkTests.{turned}
 
 -- An emptied file may keep the files that are freed later.
 pub emptied-changed : (w : World) (s : ℕ) (cut : Socket → Socket) → ((x : Socket) → empty_file (AsSocket (cut x)) ≡ empty_file (AsSocket x)) → emptied (nat_eq s) (with_socket w s cut) ≡ emptied (nat_eq s) w
@@ -103,6 +100,4 @@ socket-stands files s x is = option_and_then_some socket_of (map.get files s) x 
 pub backlog-few : (w : World) (s : ℕ) (x : Socket) → IsWithin w → map.get w.files s ≡ Some (AsSocket x) → length x.backlog ≤ MAX_BACKLOG
 backlog-few w s x k at =
     let fits = k.sockets s x at in
-    let room = fits.room in
-    let some = fits.backlog in
-    omega (arith, room, some)
+    omega (arith, fits.room, fits.backlog)

@@ -1,10 +1,8 @@
 -- Kept numbers stay the recounts, whatever changes.
 pub mod Recounts
 pub mod Bounds
-pub mod Agreement
 pub mod Exact
 pub mod PlainLists
-pub mod Sends
 pub mod CountChanges
 pub mod ProcessTables
 pub mod LossOutcomes
@@ -26,7 +24,6 @@ pub mod SocketChanges
 -- after.
 pub mod FileContents
 pub mod LostFiles
-pub mod PlaceChanges
 pub mod NewFiles
 pub mod StoreInvariant
 pub mod Receives

@@ -21,7 +21,6 @@ use Rattle.af_base.proofs.PlacesAndCounts.{held_by_none}
 use Rattle.af_base.proofs.Lookups.{insert-here, same_or_not, there, told_apart}
 use Rattle.af_base.proofs.PlaceMoves.{live-changed, others-changed, there-holds, total-changed}
 use Rattle.af_base.proofs.SettledWorlds.{get-without}
-use Rattle.af_base.proofs.SoundSteps.{same-with_queue}
 use Rattle.af_base.proofs.Sums.{total-change_at}
 use Rattle.af_base.proofs.Totals.{total-count}
 use Rattle.af_base.proofs.Trees.{insert_same}
@@ -88,45 +87,61 @@ module _ (w : World) (s : ℕ) (g : Socket → Socket) (live : IsLive w s) (none
     h.2 ∙ same-left h.0 ((h.1 s).1 goes-after),
   )
 
--- A queue that is not empty is that of a socket.
-queue-socket : (w : World) (s : ℕ) (m : Message) (rest : List Message) → queue_at w s ≡ m ∷ rest → (x : Socket) × (map.get w.files s ≡ Some (AsSocket x)) × (x.queue ≡ m ∷ rest)
-queue-socket w s m rest e = by (map.get w.files s) refl where
-  nothing : {A : Type 0} → [] ≡ m ∷ rest → A
+-- A list of a file that is not empty is that of a socket.
+socket-of-list : {A : Type 0} (part : File → List A) → part Plain ≡ [] → (w : World) (s : ℕ) (m : A) (rest : List A) → option_map_or part (map.get w.files s) [] ≡ m ∷ rest → (x : Socket) × (map.get w.files s ≡ Some (AsSocket x)) × (part (AsSocket x) ≡ m ∷ rest)
+socket-of-list {A = A} part plain w s m rest e = by (map.get w.files s) refl where
+  nothing : {B : Type 0} → [] ≡ m ∷ rest → B
   nothing e = absurd (let short : 0 ≡ length (m ∷ rest) = ap length e in omega (arith, short))
 
-  by : (o : Option File) → map.get w.files s ≡ o → (x : Socket) × (map.get w.files s ≡ Some (AsSocket x)) × (x.queue ≡ m ∷ rest)
-  by None is = nothing (sym (ap (λ o. option_map_or queue_of o []) is) ∙ e)
-  by (Some Plain) is = nothing (sym (ap (λ o. option_map_or queue_of o []) is) ∙ e)
-  by (Some (AsSocket x)) is = (x, is, sym (ap (λ o. option_map_or queue_of o []) is) ∙ e)
+  by : (o : Option File) → map.get w.files s ≡ o → (x : Socket) × (map.get w.files s ≡ Some (AsSocket x)) × (part (AsSocket x) ≡ m ∷ rest)
+  by None is = nothing (sym (ap (λ o. option_map_or part o []) is) ∙ e)
+  by (Some Plain) is = nothing (sym plain ∙ sym (ap (λ o. option_map_or part o []) is) ∙ e)
+  by (Some (AsSocket x)) is = (x, is, sym (ap (λ o. option_map_or part o []) is) ∙ e)
 
 -- So its first message can be taken.
 pub first-shed : (w : World) (s : ℕ) (m : Message) (rest : List Message) → IsWithin w → queue_at w s ≡ m ∷ rest → (x : Socket) × (map.get w.files s ≡ Some (AsSocket x)) × Sheds x.queue m rest
-first-shed w s m rest within e = let x = queue-socket w s m rest e in (x.0, x.1, sheds-first x.0.queue m rest (within.sockets s x.0 x.1).messages x.2)
+first-shed w s m rest within e = let x = socket-of-list queue_of refl w s m rest e in (x.0, x.1, sheds-first x.0.queue m rest (within.sockets s x.0 x.1).messages x.2)
 
--- A queue that is not empty begins with a message.
-pub queue-first : (q : List Message) → 0 < length q → (m : Message) × (q ≡ m ∷ drop 1 q)
-queue-first [] some = absurd (omega (arith, some))
-queue-first (m ∷ q) some = (m, refl)
+-- A list that is not empty begins with an element.
+pub first-of : {A : Type 0} (xs : List A) → 0 < length xs → (x : A) × (xs ≡ x ∷ drop 1 xs)
+first-of [] some = absurd (omega (arith, some))
+first-of (x ∷ xs) some = (x, refl)
 
 -- Without the first message of a queue the others are held that were.
 pub popped-holds : (w : World) (s : ℕ) (m : Message) (rest : List Message) → queue_at w s ≡ m ∷ rest → (f : ℕ) → Holds (with_queue w s rest) s f → Holds w s f
 popped-holds w s m rest first f h =
-    let x = queue-socket w s m rest first in
+    let x = socket-of-list queue_of refl w s m rest first in
     let here : map.get (with_queue w s rest).files s ≡ Some (AsSocket (record x.0 { queue = rest })) = ap (λ o. map.get (option_map_or (λ y. map.insert w.files s (file_with (λ z. record z { queue = rest }) y)) o w.files) s) x.1 ∙ insert-here w.files s (AsSocket (record x.0 { queue = rest })) in
     let held : Contains (attached_in rest ++ x.0.backlog) f = subst (λ o. Contains (option_map_or contents o []) f) here h in
     let more : Contains (m.attached ++ (attached_in rest ++ x.0.backlog)) f = Contains-append_right m.attached (attached_in rest ++ x.0.backlog) f held in
     let all : Contains (attached_in x.0.queue ++ x.0.backlog) f = subst (λ q. Contains (attached_in q ++ x.0.backlog) f) (sym x.2) (subst (λ l. Contains l f) (sym (append_assoc m.attached (attached_in rest) x.0.backlog)) more) in
     there-holds w s f (AsSocket x.0) x.1 all
 
--- An empty queue put in place of an empty one changes nothing.
-pub emptied-same : (w : World) (s : ℕ) → queue_at w s ≡ [] → with_queue w s [] ≡ w
-emptied-same w s empty = by (map.get w.files s) refl where
-  by : (o : Option File) → map.get w.files s ≡ o → with_queue w s [] ≡ w
-  by None e = ap (λ o. record w { files = option_map_or (λ y. map.insert w.files s (file_with (λ z. record z { queue = [] }) y)) o w.files }) e
-  by (Some Plain) e = ap (λ o. record w { files = option_map_or (λ y. map.insert w.files s (file_with (λ z. record z { queue = [] }) y)) o w.files }) e ∙ ap (λ fs. record w { files = fs }) (insert_same w.files s Plain e)
-  by (Some (AsSocket x)) e =
-      let none : x.queue ≡ [] = sym (ap (λ o. option_map_or queue_of o []) e) ∙ empty in
-      ap (with_queue w s) (sym none) ∙ same-with_queue w s x e
+-- A change that leaves a socket as it is changes nothing.
+same-socket : (w : World) (s : ℕ) (g : Socket → Socket) → ((x : Socket) → map.get w.files s ≡ Some (AsSocket x) → g x ≡ x) → with_socket w s g ≡ w
+same-socket w s g same = by (map.get w.files s) refl where
+  found : Option File → World
+  found o = record w { files = option_map_or (λ y. map.insert w.files s (file_with g y)) o w.files }
+
+  still : (x : File) → map.get w.files s ≡ Some x → file_with g x ≡ x
+  still Plain e = refl
+  still (AsSocket x) e = ap AsSocket (same x e)
+
+  by : (o : Option File) → map.get w.files s ≡ o → with_socket w s g ≡ w
+  by None e = ap found e
+  by (Some x) e = ap found e ∙ ap (λ y. record w { files = map.insert w.files s y }) (still x e) ∙ ap (λ fs. record w { files = fs }) (insert_same w.files s x e)
+
+-- To drop the first of an empty queue changes nothing.
+pub none-popped : (w : World) (s : ℕ) → queue_at w s ≡ [] → with_queue w s (drop 1 (queue_at w s)) ≡ w
+none-popped w s empty = same-socket w s (λ x. record x { queue = drop 1 (queue_at w s) }) (λ x at.
+    let none : drop 1 (queue_at w s) ≡ x.queue = ap (drop 1) empty ∙ sym empty ∙ ap (λ o. option_map_or queue_of o []) at in
+    λ i. record x { queue = none i })
+
+-- The first of an empty backlog is nothing.
+pub none-dequeued : (w : World) (s : ℕ) → backlog_at w s ≡ [] → with_socket w s dequeued ≡ w
+none-dequeued w s empty = same-socket w s dequeued (λ x at.
+    let none : x.backlog ≡ [] = sym (ap (λ o. option_map_or backlog_of o []) at) ∙ empty in
+    λ i. record x { backlog = (ap (drop 1) none ∙ sym none) i })
 
 -- How many embryos wait in all backlogs together.
 abbrev embryos_in : World → ℕ
@@ -139,7 +154,7 @@ burden w = map.len w.files + messages_in w + embryos_in w
 -- A message less is less to do.
 pub burden-popped : (w : World) (s : ℕ) (m : Message) (rest : List Message) → queue_at w s ≡ m ∷ rest → burden (with_queue w s rest) < burden w
 burden-popped w s m rest first =
-    let x = queue-socket w s m rest first in
+    let x = socket-of-list queue_of refl w s m rest first in
     let long : length (x.0).queue ≡ length rest + 1 = ap length x.2 ∙ omega arith in
     omega (arith, long, total-changed (λ y. length (backlog_of y)) w s (λ y. record y { queue = rest }) (λ y. refl), len-change_at (file_with (λ y. record y { queue = rest })) w.files s, total-change_at (λ y. length (queue_of y)) (file_with (λ y. record y { queue = rest })) w.files s (AsSocket x.0) x.1)
 
@@ -149,20 +164,16 @@ burden-gone w f live =
     let x = there (map.get w.files f) live in
     omega (arith, messages-without w f x.0 x.1, total-without (λ y. length (backlog_of y)) (λ h y. ap length (same_backlog h y)) w f x.0 x.1, total-without (λ y. 1) (λ h y. refl) w f x.0 x.1, total-count w.files, total-count (without (nat_eq f) w).files)
 
--- To drop the first of an empty queue changes nothing.
-pub none-popped : (w : World) (s : ℕ) → queue_at w s ≡ [] → with_queue w s (drop 1 (queue_at w s)) ≡ w
-none-popped w s empty = ap (λ q. with_queue w s (drop 1 q)) empty ∙ emptied-same w s empty
-
 -- When an unheld file has lost its first message, the outcome is the same.
 pub settles-popped : (w v : World) (s : ℕ) → v ≡ with_queue w s (drop 1 (queue_at w s)) → IsLive w s → refs w s ≡ 0 → 0 < length (queue_at w s) → (end : World) → Settles v end → Settles w end
 settles-popped w v s is live none some end h =
-    let first = queue-first (queue_at w s) some in
+    let first = first-of (queue_at w s) some in
     settles-shed w s (λ x. record x { queue = drop 1 (queue_at w s) }) live none (popped-holds w s first.0 (drop 1 (queue_at w s)) first.1) end (subst (λ x. Settles x end) is h)
 
 -- And there is less to do.
 pub burden-less : (w v : World) (s : ℕ) → v ≡ with_queue w s (drop 1 (queue_at w s)) → 0 < length (queue_at w s) → burden v < burden w
 burden-less w v s is some =
-    let first = queue-first (queue_at w s) some in
+    let first = first-of (queue_at w s) some in
     subst (λ x. burden x < burden w) (sym is) (burden-popped w s first.0 (drop 1 (queue_at w s)) first.1)
 
 -- With messages, it loses the first of them.
@@ -173,46 +184,16 @@ lost-message w s some = ap (λ b. if b then with_socket w s dequeued else with_q
 pub lost-embryo : (w : World) (s : ℕ) → queue_at w s ≡ [] → without_place w s ≡ with_socket w s dequeued
 lost-embryo w s silent = ap (λ n. if nat_eq n 0 then with_socket w s dequeued else with_queue w s (drop 1 (queue_at w s))) (ap length silent)
 
--- A backlog that is not empty is that of a socket.
-pub backlog-socket : (w : World) (s n : ℕ) (rest : List ℕ) → backlog_at w s ≡ n ∷ rest → (x : Socket) × (map.get w.files s ≡ Some (AsSocket x)) × (x.backlog ≡ n ∷ rest)
-backlog-socket w s n rest e = by (map.get w.files s) refl where
-  nothing : {A : Type 0} → [] ≡ n ∷ rest → A
-  nothing e = absurd (let short : 0 ≡ length (n ∷ rest) = ap length e in omega (arith, short))
-
-  by : (o : Option File) → map.get w.files s ≡ o → (x : Socket) × (map.get w.files s ≡ Some (AsSocket x)) × (x.backlog ≡ n ∷ rest)
-  by None is = nothing (sym (ap (λ o. option_map_or backlog_of o []) is) ∙ e)
-  by (Some Plain) is = nothing (sym (ap (λ o. option_map_or backlog_of o []) is) ∙ e)
-  by (Some (AsSocket x)) is = (x, is, sym (ap (λ o. option_map_or backlog_of o []) is) ∙ e)
-
--- The first of an empty backlog is nothing.
-pub none-dequeued : (w : World) (s : ℕ) → backlog_at w s ≡ [] → with_socket w s dequeued ≡ w
-none-dequeued w s empty = by (map.get w.files s) refl where
-  with_file : Option File → World
-  with_file o = record w { files = option_map_or (λ y. map.insert w.files s (file_with dequeued y)) o w.files }
-
-  by : (o : Option File) → map.get w.files s ≡ o → with_socket w s dequeued ≡ w
-  by None e = ap with_file e
-  by (Some Plain) e = ap with_file e ∙ ap (λ fs. record w { files = fs }) (insert_same w.files s Plain e)
-  by (Some (AsSocket x)) e =
-      let none : x.backlog ≡ [] = sym (ap (λ o. option_map_or backlog_of o []) e) ∙ empty in
-      let same : drop 1 x.backlog ≡ x.backlog = ap (drop 1) none ∙ sym none in
-      ap with_file e ∙ (λ i. record w { files = map.insert w.files s (AsSocket (record x { backlog = same i })) }) ∙ ap (λ fs. record w { files = fs }) (insert_same w.files s (AsSocket x) e)
-
 -- The first that waits, and where.
 pub first-embryo : (w : World) (s n : ℕ) → backlog_at w s ≡ n ∷ drop 1 (backlog_at w s) → (x : Socket) × (map.get w.files s ≡ Some (AsSocket x)) × (x.backlog ≡ n ∷ drop 1 x.backlog)
 first-embryo w s n first =
-    let x = backlog-socket w s n (drop 1 (backlog_at w s)) first in
+    let x = socket-of-list backlog_of refl w s n (drop 1 (backlog_at w s)) first in
     (x.0, x.1, x.2 ∙ ap (λ xs. n ∷ xs) (sym (ap (drop 1) x.2)))
-
--- A backlog that is not empty begins with an embryo.
-backlog-first : (xs : List ℕ) → 0 < length xs → (n : ℕ) × (xs ≡ n ∷ drop 1 xs)
-backlog-first [] some = absurd (omega (arith, some))
-backlog-first (n ∷ xs) some = (n, refl)
 
 -- The listener and its first embryo.
 some-embryo : (w : World) (s : ℕ) → 0 < length (backlog_at w s) → (n : ℕ) × (x : Socket) × (map.get w.files s ≡ Some (AsSocket x)) × (x.backlog ≡ n ∷ drop 1 x.backlog)
 some-embryo w s some =
-    let first = backlog-first (backlog_at w s) some in
+    let first = first-of (backlog_at w s) some in
     let x = first-embryo w s first.0 first.1 in
     (first.0, x.0, x.1, x.2)
 

@@ -21,10 +21,9 @@ use Rattle.af_base.proofs.Elements.{Contains-none}
 use Rattle.af_base.proofs.Embryos.{waiting-add_file, waiting-changed, waiting-none}
 use Rattle.af_base.proofs.Free.{AreFree, free-lowest_free}
 use Rattle.af_base.proofs.Lookups.{insert-here, insert-other, same_or_not, told_apart}
-use Rattle.af_base.proofs.PlaceMoves.{live-changed, others-changed, there-table}
+use Rattle.af_base.proofs.PlaceMoves.{live-changed, others-changed}
 use Rattle.af_base.proofs.BlankFiles.{blank-connected, still-blank}
 use Rattle.af_base.proofs.SoundSteps.{process-there}
-use Rattle.af_base.proofs.StaysWithin.{below-most}
 use Rattle.af_ledger.specs.Counted.{more, uncounted}
 use Rattle.af_ledger.specs.Tally.{Tally, count_in_map, kept_of, with_ref, with_refs}
 use Rattle.af_ledger.specs.declared.count.Count.{Count}
@@ -35,10 +34,9 @@ use Rattle.af_mark.specs.MarksView.{born, is_marked}
 use Rattle.af_table.specs.Procs.{Procs}
 use Rattle.af_collect.specs.Agreement.{IsExact}
 use Rattle.af_collect.specs.Limits.{IsBelowLimit}
-use Rattle.af_collect.proofs.SocketStates.{exact-embryo, exact-queued}
-use Rattle.af_collect.proofs.Exact.{exact-install, exact-install_all, exact-pair, world-is}
+use Rattle.af_collect.proofs.SocketStates.{exact-embryo, exact-queued, is-socket}
+use Rattle.af_collect.proofs.Exact.{exact-install_all, exact-opened, exact-pair, world-is}
 use Rattle.af_collect.proofs.ProcessTables.{insert_twice}
-use Rattle.af_collect.proofs.Sends.{is-socket}
 use Rattle.af_collect.specs.Keeping.{below}
 use Rattle.af_collect.specs.StoreView.{StoreView}
 use Rattle.af_collect.proofs.SocketChanges.{below-add_file, covers_queued, covers_same, moves_queued, moves_same}
@@ -46,8 +44,7 @@ use Rattle.af_collect.proofs.TablePlaces.{covers_install, covers_install_lowest,
 use Rattle.af_collect.specs.contracts.holdings.Holdings.{the_view}
 use Rattle.af_collect.specs.declared.holdings.Holdings.TheInside.{Inside}
 use Rattle.af_collect.specs.declared.collector.Collector.{Collector}
-use Rattle.af_collect.proofs.PlaceChanges.{kept_made, kept_socket, kept_tables, made_spared}
-use Rattle.af_collect.proofs.StoreInvariant.{BothInvariants, both-same, seen-world, shown}
+use Rattle.af_collect.proofs.StoreInvariant.{kept_made, kept_socket, kept_tables, made_spared, BothInvariants, both-same, seen-world, shown}
 
 -- The needs of a connect: room for a file, a client that was never connected, and a listener with
 -- room for an embryo (connect(2)).
@@ -126,15 +123,13 @@ module _ (p : Collector) (h : Inside) (was : BothInvariants p h.procs h.files h.
       → (procs : Procs) (f : ℕ) → procs.processes ≡ change_at (installed fd f) h.procs.processes pid → procs.next_pid ≡ h.procs.next_pid → f ≡ n → (fs : FilesView) → fs ≡ entered Table x h.files → BothInvariants p procs fs h.ledger
   stands-made o opened seen pid fd needs x empty exact procs f processes next is fs files =
       let v = add_file w x in
-      let q = process_at w pid in
       let asked : Opens w pid fd = subst (λ u. Opens u pid fd) (seen-world p h o opened seen) needs in
-      let at = process-there w pid (ap not asked.1) in
       let made : Tally = record k { counts = map.insert k.counts n uncounted } in
       let known = exact asked.0 was.0 in
       subst (λ u. BothInvariants p procs u h.ledger) (sym files)
       (both-same _ (install v pid fd n) _ (with_ref Table n made) _ (born n h.files.marks)
       (world-is _ _ (processes ∙ ap (λ g. change_at (installed fd g) h.procs.processes pid) is) refl refl next refl) (ap (λ m. kept_of m h.ledger) (entered-held Table h.files.counts n)) refl
-      (exact-install v pid fd n q made at (sym (there-table w pid fd q at) ∙ asked.3) (below-most v pid fd q known.within at (asked.2 q at)) (ap is_some (insert-here w.files n x)) known)
+      (exact-opened v pid fd n made (asked.1, asked.2, asked.3) (ap is_some (insert-here w.files n x)) known)
       (kept_tables (install v pid fd n) refl refl (λ e. moves_install begun v pid fd n (made_spared was.1 e n (omega arith))) (λ _. covers_install begun v pid fd n (is_marked (born n h.files.marks)) (below p.progress.visited) asked.3)
       (kept_made x empty was.0.whole.files_numbered was.1)))
 
@@ -180,9 +175,8 @@ module _ (p : Collector) (h : Inside) (was : BothInvariants p h.procs h.files h.
     new : waiting v n ≡ 0
     new =
         let none : waiting w n ≡ 0 = waiting-none w n (λ q c. let low = was.0.whole.files_numbered n (was.0.whole.queues_live q n c) in omega (arith, low)) in
-        let most = waiting-add_file w embryo refl n in
         let same = waiting-changed (add_file w embryo) s (connected n) (λ x. refl) n in
-        omega (arith, none, most, same)
+        omega (arith, none, waiting-add_file w embryo refl n, same)
 
     -- The listener is another socket than the client, and stays as it is.
     pub stays : map.get v.files l ≡ map.get w.files l

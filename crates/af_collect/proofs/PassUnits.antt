@@ -60,8 +60,8 @@ module _ {begun old new : World} (m : Moves begun old new) where
   }
 
   -- As many live files of the begin pass a test as before.
-  live_count_same : (test : ℕ → Bool) → live_count begun new test ≡ live_count begun old test
-  live_count_same test = count_same begun.files (λ e. is_live new e.0 && test e.0) (λ e. is_live old e.0 && test e.0) (λ k v is. ap (λ b. b && test k) (m.live_same k (ap is_some is)))
+  as_many : (test : ℕ → Bool) → live_count begun new test ≡ live_count begun old test
+  as_many test = count_same begun.files (λ e. is_live new e.0 && test e.0) (λ e. is_live old e.0 && test e.0) (λ k v is. ap (λ b. b && test k) (m.live_same k (ap is_some is)))
 
   -- As many live sockets of the begin are unmarked as before.
   left_count_same : (marked : ℕ → Bool) → left_count begun new marked ≡ left_count begun old marked
@@ -80,15 +80,11 @@ module _ {begun old new : World} (m : Moves begun old new) where
   -- The units stay counted.
   pub counted_moves : (visited scanned swept : ℕ → Bool) (looked : ℕ) → AreCounted begun old visited scanned swept looked → AreCounted begun new visited scanned swept looked
   counted_moves visited scanned swept looked i = record {
-    at_least =
-        let a = live_count_same visited in
-        let b = live_count_same scanned in
-        let c = live_count_same swept in
-        omega (arith, i.at_least, a, b, c);
+    at_least = omega (arith, i.at_least, as_many visited, as_many scanned, as_many swept);
     at_most =
-        let a = live_count_same (λ f. not (visited f)) in
-        let b = live_count_same (λ f. not (scanned f)) in
-        let c = live_count_same (λ f. not (swept f)) in
+        let a = as_many (λ f. not (visited f)) in
+        let b = as_many (λ f. not (scanned f)) in
+        let c = as_many (λ f. not (swept f)) in
         omega (arith, i.at_most, a, b, c);
   }
 

@@ -20,9 +20,8 @@ use Rattle.af_base.proofs.StaysWithin.{within-add_process}
 use Rattle.af_ledger.specs.Tally.{CanDrop, CanHold, Tally, with_ref, without_ref}
 use Rattle.af_ledger.specs.declared.place.Place.TheVariants.{Table}
 use Rattle.af_collect.specs.Agreement.{IsExact, Joins}
-use Rattle.af_collect.proofs.Agreement.{agrees-add_process}
+use Rattle.af_collect.proofs.Exact.{agrees-add_process, exact-install, exact-removed, exact-uninstall}
 use Rattle.af_collect.proofs.Bounds.{can-drop-table, can-hold-table}
-use Rattle.af_collect.proofs.Exact.{exact-install, exact-removed, exact-uninstall}
 
 -- Maps with the same below a number and from it on are one.
 same-parts : {X : Type 0} (a b : Map X) (from : ℕ) → ((n : ℕ) → n < from → map.get a n ≡ map.get b n) → ((n : ℕ) → from ≤ n → map.get a n ≡ map.get b n) → a ≡ b

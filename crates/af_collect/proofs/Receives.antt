@@ -23,7 +23,7 @@ use Rattle.af_collect.specs.Receiving.{taken_at, CanReceive}
 use Rattle.af_collect.specs.HoldingsView.{filled, AreExact}
 use Rattle.af_collect.proofs.Bounds.{can-drop-all, tabled-most}
 use Rattle.af_collect.proofs.Exact.{exact-filled, exact-shed}
-use Rattle.af_collect.proofs.Sends.{is-socket}
+use Rattle.af_collect.proofs.SocketStates.{is-socket}
 use Rattle.af_collect.proofs.Recounts.{Sheds, sheds-taken}
 use Rattle.af_collect.specs.Keeping.{NotBegunGarbage, pass_of}
 use Rattle.af_collect.specs.StoreView.{StoreView}

@@ -1,21 +1,22 @@
--- A socket that is made, named, listens, is connected or accepted: the store stays exact.
-use Rattle.std.proofs.Common.{◌≡◌, ◌≤◌, ℕ, true, false, List, [], length, refl, sym, ap, ◌∙◌, subst, arith, ◌<◌, cond, nat_eq, ◌∷◌, drop}
-use Rattle.std.specs.Prelude.{Option, Some, None, IfSome}
-use Rattle.std.specs.Option.{option_and_then, option_map_or}
-use Rattle.std.specs.List.{sum_by, Contains}
+-- A socket that is made, named, listens, is connected, accepted or sent to: the store stays exact.
+use Rattle.std.proofs.Common.{◌≡◌, ◌<◌, ◌≤◌, ◌+◌, ℕ, false, [], length, refl, sym, ap, ◌∙◌, subst, true, List, arith, cond, nat_eq, ◌∷◌, drop}
+use Rattle.std.specs.Prelude.{Option, Some, None, IsTrue, is_none, unwrap_or, IfSome}
 use Rattle.std.specs.FinMap as map
+use Rattle.std.specs.List.{Contains, sum_by}
+use Rattle.std.specs.Option.{option_and_then, option_map_or}
+use Rattle.std.proofs.lemmas.Bool.{false≢true}
 use Rattle.std.proofs.lemmas.List.{nil_from_length}
+use Rattle.af_base.specs.declared.limits.TheConstants.{MAX_INFLIGHT, MAX_MESSAGES, MAX_BACKLOG}
+use Rattle.af_base.specs.World.{AsSocket, File, IsLive, Message, Plain, World, Socket}
+use Rattle.af_base.specs.Changes.{push_message, add_file, file_with, listening, with_name, with_socket, connected, queued, dequeued, install}
+use Rattle.af_base.specs.Counts.{total, charge, count_in, total_of, waiting}
+use Rattle.af_base.specs.Places.{queue_at, queue_of, attached_in, backlog_at}
+use Rattle.af_base.specs.Refusals.{no_socket, socket_at, socket_of, is_full, room_of}
+use Rattle.af_base.specs.Whole.{IsMessageWithin, IsWhole, IsWithin}
 use Rattle.af_base.specs.declared.events.SockType.{SockType}
 use Rattle.af_base.specs.declared.events.State.TheVariants as state
-use Rattle.af_base.specs.declared.limits.TheConstants.{MAX_BACKLOG, MAX_NOFILE}
-use Rattle.af_base.specs.World.{AsSocket, File, Message, Plain, Socket, World, IsLive, Process}
-use Rattle.af_base.specs.Places.{attached_in, queue_of, backlog_at}
-use Rattle.af_base.specs.Counts.{charge, count_in, total_of, waiting}
-use Rattle.af_base.specs.Changes.{add_file, file_with, listening, with_name, with_socket, connected, queued, dequeued, install}
 use Rattle.af_base.specs.Names.{is_name, named}
-use Rattle.af_base.specs.Refusals.{is_full, room_of, socket_at, socket_of}
 use Rattle.af_base.specs.Steps.{idle_socket, connected_socket}
-use Rattle.af_base.specs.Whole.{IsWhole, IsWithin}
 use Rattle.af_base.proofs.Connections.{whole-bound, whole-listening, within-bound, within-listening, whole-made, whole-queued, within-made, within-queued, live-embryo}
 use Rattle.af_base.proofs.Embryos.{waiting-changed, waiting-queued}
 use Rattle.af_base.proofs.PlaceMoves.{live-changed, total-changed}
@@ -24,14 +25,53 @@ use Rattle.af_base.proofs.BlankFiles.{blank-idle, whole-blank, within-blank}
 use Rattle.af_base.proofs.Trees.{insert_same}
 use Rattle.af_base.proofs.NewFiles.{fresh_file}
 use Rattle.af_base.proofs.Elements.{Contains-first}
+use Rattle.af_ledger.specs.Tally.{CanHoldAll, Tally, is_user, with_refs, with_ref, without_ref}
+use Rattle.af_ledger.specs.declared.place.Place.TheVariants.{Queue, Backlog, Table}
 use Rattle.af_ledger.specs.Counted.{uncounted}
-use Rattle.af_ledger.specs.Tally.{Tally, with_ref, without_ref}
-use Rattle.af_ledger.specs.declared.place.Place.TheVariants.{Backlog, Table}
 use Rattle.af_ledger.proofs.Laws.{has-entered, has-held, inflight-backlogged, tabled-backlogged, waiting-backlogged}
 use Rattle.af_collect.specs.Agreement.{Agrees, IsExact}
-use Rattle.af_collect.proofs.Exact.{exact-made, live-added, next-new, exact-dequeued, exact-install}
-use Rattle.af_collect.proofs.Agreement.{agrees-entered, agrees-new_file}
+use Rattle.af_collect.specs.Limits.{IsOfProcess}
+use Rattle.af_collect.proofs.Bounds.{can-hold-all}
+use Rattle.af_collect.proofs.Exact.{CanInstall, exact-opened, exact-push, exact-made, live-added, next-new, exact-dequeued, agrees-entered, agrees-new_file}
 use Rattle.af_collect.proofs.LossOutcomes.{first-embryo}
+
+-- A file that is known and not plain is a socket.
+pub is-socket : (w : World) (s : ℕ) → is_none (socket_at w s) ≡ false → map.get w.files s ≡ Some (AsSocket (unwrap_or (socket_at w s) no_socket))
+is-socket w s = by (map.get w.files s) refl where
+  by : (o : Option File) → map.get w.files s ≡ o → is_none (option_and_then socket_of o) ≡ false → map.get w.files s ≡ Some (AsSocket (unwrap_or (socket_at w s) no_socket))
+  by None e d = absurd (false≢true (sym d))
+  by (Some Plain) e d = absurd (false≢true (sym d))
+  by (Some (AsSocket x)) e d = e ∙ sym (ap (λ o. Some (AsSocket (unwrap_or (option_and_then socket_of o) no_socket))) e)
+
+-- The user of a process is kept.
+known-sender : (w : World) (u : ℕ) (k : Tally) → IsOfProcess w u → Agrees w k → IsTrue (is_user u k.users)
+known-sender w u k sender agrees = subst (λ v. IsTrue (is_user v k.users)) (sym sender.2) (agrees.known sender.0 _ sender.1)
+
+-- For a message that may be put: what contracts say of the world that is shown (v) holds of the
+-- equal one that the store has (w).
+module _ (w v : World) (same : w ≡ v) (k : Tally) (m : Message) (h : IsExact w k) (user : IsOfProcess v m.user) (flying : total v + length m.attached ≤ MAX_INFLIGHT) (live : (f : ℕ) → Contains m.attached f → IsLive v f) where
+  -- With it at most the limit is in flight.
+  flies : total w + length m.attached ≤ MAX_INFLIGHT
+  flies = subst (λ x. total x + length m.attached ≤ MAX_INFLIGHT) (sym same) flying
+
+  -- Its user is kept.
+  sends : IsTrue (is_user m.user k.users)
+  sends = known-sender w m.user k (subst (λ x. IsOfProcess x m.user) (sym same) user) h.agrees
+
+  -- Its files are live.
+  lives : (f : ℕ) → Contains m.attached f → IsLive w f
+  lives f c = subst (λ x. IsLive x f) (sym same) (live f c)
+
+  -- Its places can be counted and charged.
+  pub can-put : CanHoldAll m.user m.attached k
+  can-put = can-hold-all w m k h.within flies sends (λ f c. h.counted f ∙ lives f c) h.agrees
+
+  -- And all is exact with it.
+  pub exact-put : (s : ℕ) → is_none (socket_at v s) ≡ false → length (queue_at v s) < MAX_MESSAGES → IsMessageWithin m → IsExact (push_message w s m) (with_refs (Queue m.user) m.attached k)
+  exact-put s socket few fits =
+      let at = is-socket w s (subst (λ x. is_none (socket_at x s) ≡ false) (sym same) socket) in
+      let room = subst (λ o. length (option_map_or queue_of o []) < MAX_MESSAGES) at (subst (λ x. length (queue_at x s) < MAX_MESSAGES) (sym same) few) in
+      exact-push w s m (unwrap_or (socket_at w s) no_socket) k at sends lives fits room flies h
 
 -- A socket more that was never connected, which waits.
 pub exact-idle : (w : World) (kind : SockType) (k : Tally) → is_full w 1 ≡ false → IsExact w k
@@ -98,8 +138,7 @@ idle-alone w s k = by (map.get w.files s) refl where
   by (Some Plain) e h = tt
   by (Some (AsSocket x)) e h =
       let none : room_of x.state ≡ 0 = ap room_of h in
-      let most = (k.sockets s x e).backlog in
-      nil_from_length x.backlog (omega (arith, none, most))
+      nil_from_length x.backlog (omega (arith, none, (k.sockets s x e).backlog))
 
 -- An embryo more, which waits for its place in a backlog, and the client that is connected to it.
 pub exact-embryo : (w : World) (c : ℕ) (kind : SockType) (x : Socket) (k : Tally) → map.get w.files c ≡ Some (AsSocket x) → x.state ≡ state.Idle → is_full w 1 ≡ false → IsExact w k
@@ -148,5 +187,5 @@ module _ (w : World) (s f : ℕ) (x : Socket) (k : Tally) (at : map.get w.files 
   live-first = live-embryo w s f x h.whole at (subst (λ xs. Contains xs f) (sym first) (Contains-first f (drop 1 x.backlog)))
 
   -- It comes into the table, at a free number, and leaves the backlog.
-  pub exact-accepted : (p n : ℕ) (q : Process) → map.get w.processes p ≡ Some q → map.get q.table n ≡ None → n < MAX_NOFILE → IsExact (install (with_socket w s dequeued) p n f) (without_ref Backlog f (with_ref Table f k))
-  exact-accepted p n q there free low = exact-dequeued (install w p n f) s f x (with_ref Table f k) at first (exact-install w p n f q k there free low live-first h)
+  pub exact-accepted : (p n : ℕ) → CanInstall w p n → IsExact (install (with_socket w s dequeued) p n f) (without_ref Backlog f (with_ref Table f k))
+  exact-accepted p n can = exact-dequeued (install w p n f) s f x (with_ref Table f k) at first (exact-opened w p n f k can live-first h)

@@ -36,10 +36,9 @@ module _ {w begun : World} {m : MarksView} {c : PassProgress} where
   pub reclaimed_most : c.stage ≡ Sweeping → PassInvariant w begun m c → c.reclaimed ≤ MAX_FILES
   reclaimed_most e k =
       let p = in_sweeping e k in
-      let n = p.sweeping.counted.2 in
       let most = count_by-le-length (λ e. is_socket e.1 && p.sweeping.counted.0 e.0) (map.entries begun.files) in
       let few = p.running.since.sound.within.file_count in
-      omega (arith, n, most, map.len-entries begun.files, few)
+      omega (arith, p.sweeping.counted.2, most, map.len-entries begun.files, few)
 
   -- A file that is no garbage of the begin of a running pass is spared.
   spares_in : (n f : ℕ) → (IsRunning w begun m c → ¬ (Garbage begun f)) → PassInvariant w begun m c → NotBegunGarbage (pass_of c.stage begun n) f

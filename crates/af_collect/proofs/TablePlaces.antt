@@ -160,9 +160,8 @@ moves_add_process begun w q tabled = moves_tables begun w (add_process w q) refl
 pub covers_add_process : (begun w : World) (q : Process) (marked visited : ℕ → Bool) → ((p : ℕ) → IsTrue (map.contains_key w.processes p) → p < w.next_pid) → Covers begun w (add_process w q) marked visited
 covers_add_process begun w q marked visited numbered = covers_tables begun w (add_process w q) marked visited refl (λ f l t.
     let at = table-there w t.0 t.1 f t.2 in
-    let low = numbered t.0 (ap is_some at.1) in
     elim (same_or_not t.0 w.next_pid) [
-      | inl same ↦ absurd (omega (arith, same, low))
+      | inl same ↦ absurd (omega (arith, same, numbered t.0 (ap is_some at.1)))
       | inr apart ↦ inl (t.0, t.1, there-table (add_process w q) t.0 t.1 at.0 (insert-other w.processes w.next_pid q t.0 apart ∙ at.1) ∙ at.2)
     ])
 

@@ -35,12 +35,11 @@ module _ {X : Type 0} where
   pub count_le : (p q : ℕ × X → Bool) (es : List (ℕ × X)) → ((e : ℕ × X) → p e ≡ true → q e ≡ true) → count_by p es ≤ count_by q es
   count_le p q [] h = omega arith
   count_le p q (e ∷ es) h =
-      let rest = count_le p q es h in
       let each : cond (p e) 1 0 ≤ cond (q e) 1 0 = elim (p e) as (λ b. p e ≡ b → cond b 1 0 ≤ cond (q e) 1 0) [
         | true ↦ λ y. let to : cond (q e) 1 0 ≡ 1 = ap {B = ℕ} (λ b. cond b 1 0) (h e y) in omega (arith, to)
         | false ↦ λ _. omega arith
       ] refl in
-      omega (arith, count-cons p e es, count-cons q e es, each, rest)
+      omega (arith, count-cons p e es, count-cons q e es, each, count_le p q es h)
 
   -- A test that passes one entry more, and agrees elsewhere, is passed by one more.
   one_in : (x : ℕ) (v : X) (p q : ℕ × X → Bool) → p (x, v) ≡ false → q (x, v) ≡ true → (es : List (ℕ × X)) → T (is_sorted nat_cmp es) → find nat_cmp x es ≡ Some v

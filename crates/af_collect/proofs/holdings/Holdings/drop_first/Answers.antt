@@ -1,4 +1,4 @@
-use Rattle.std.proofs.Common.{◌≡◌, [], drop, refl, sym, ap, ◌∙◌, subst}
+use Rattle.std.proofs.Common.{◌≡◌, drop, refl, sym, ap, ◌∙◌, subst}
 use Rattle.std.specs.Map.{keys_of}
 use Rattle.af_base.specs.Places.{queue_at}
 use Rattle.af_base.specs.Changes.{with_queue, with_socket}
@@ -12,7 +12,7 @@ use Rattle.af_collect.specs.contracts.holdings.Holdings.{the_view}
 use Rattle.af_collect.proofs.Bounds.{can-drop-all}
 use Rattle.af_collect.proofs.Exact.{exact-same, exact-shed, world-is}
 use Rattle.af_collect.proofs.Receives.{popped_queue}
-use Rattle.af_collect.proofs.LossOutcomes.{emptied-same, first-shed}
+use Rattle.af_collect.proofs.LossOutcomes.{first-shed, none-popped}
 use Rattle.af_collect.proofs.holdings.Holdings.drop_first.Goals as goal
 
 pub invariant_of-self : goal.invariant_of-self
@@ -20,8 +20,7 @@ invariant_of-self c =
     let h = c.self.inside in
     let w = (the_view h).world in
     let s = c.args.file.now in
-    let empty : queue_at w s ≡ [] = c.in_default.ensures.none in
-    subst (λ fs. AreExact h.procs fs h.ledger) (sym c.pop.ensures.rest) (exact-same _ _ _ _ (popped_queue w s ∙ ap (λ q. with_queue w s (drop 1 q)) empty ∙ emptied-same w s empty) refl c.self.invariant)
+    subst (λ fs. AreExact h.procs fs h.ledger) (sym c.pop.ensures.rest) (exact-same _ _ _ _ (popped_queue w s ∙ none-popped w s c.in_default.ensures.none) refl c.self.invariant)
 
 pub uncharge_message-requires : goal.uncharge_message-requires
 uncharge_message-requires c =

@@ -3,7 +3,7 @@ use Rattle.af_base.specs.Counts.{refs}
 use Rattle.af_ledger.specs.Tally.{kept_of}
 use Rattle.af_collect.specs.HoldingsView.{HoldingsView}
 use Rattle.af_collect.specs.contracts.holdings.Holdings.{the_view}
-use Rattle.af_collect.proofs.Agreement.{agrees-refs}
+use Rattle.af_collect.proofs.Exact.{agrees-refs}
 use Rattle.af_collect.proofs.holdings.Holdings.refs.Goals as goal
 
 pub returns : goal.returns

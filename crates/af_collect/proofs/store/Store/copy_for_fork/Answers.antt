@@ -15,8 +15,7 @@ use Rattle.af_collect.specs.Agreement.{IsExact}
 use Rattle.af_collect.specs.Keeping.{below}
 use Rattle.af_collect.proofs.TablePlaces.{covers_add_process, moves_fork}
 use Rattle.af_collect.specs.contracts.holdings.Holdings.{the_view}
-use Rattle.af_collect.proofs.PlaceChanges.{kept_tables}
-use Rattle.af_collect.proofs.StoreInvariant.{BothInvariants, both-same, seen-world, stood}
+use Rattle.af_collect.proofs.StoreInvariant.{kept_tables, BothInvariants, both-same, seen-world, stood}
 use Rattle.af_collect.proofs.store.Store.copy_for_fork.Goals as goal
 
 -- A look-up finds a process that is there.

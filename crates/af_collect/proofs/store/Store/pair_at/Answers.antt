@@ -51,17 +51,15 @@ below c =
 pub install-requires : goal.install-requires
 install-requires c =
     let low = first-low c.in_ok-process.process.now.process c.args.lower (c.args.higher ∷ []) (below (goal.at.install-requires c).In_ok-first) in
-    let room = c.in_ok-process.ensures.room in
-    omega (arith, low, room)
+    omega (arith, low, c.in_ok-process.ensures.room)
 
 pub install-requires-2 : goal.install-requires-2
 install-requires-2 c =
     let q = c.in_ok-process.process.now.process in
     let free = below (goal.at.install-requires-2 c).In_ok-first in
     let low = first-low (record q { table = map.insert q.table c.args.lower 0 }) c.args.higher [] (rest-free q c.args.lower (c.args.higher ∷ []) 0 free) in
-    let room = c.in_ok-process.ensures.room in
     let row = ap (λ v. v.row) c.install.ensures in
-    omega (arith, low, room, row)
+    omega (arith, low, c.in_ok-process.ensures.room, row)
 
 -- The lent process is written back with both.
 written : (c : After-install-2) → (with_process c.holdings.inside.procs c.args.pid c.install-2.new.self).processes ≡ (paired_at c.args.kind c.args.pid c.args.lower c.args.higher (the_view c.holdings.inside).world).processes

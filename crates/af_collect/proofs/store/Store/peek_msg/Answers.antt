@@ -7,8 +7,7 @@ use Rattle.af_collect.specs.HoldingsView.{filled}
 use Rattle.af_collect.proofs.Exact.{exact-same, install-filled, world-is}
 use Rattle.af_collect.proofs.Receives.{counted, exact-tabled, received_at, tabled, files-fit, files-known, receives-within, spared-within}
 use Rattle.af_collect.specs.contracts.holdings.Holdings.{the_view}
-use Rattle.af_collect.proofs.PlaceChanges.{kept_peeked}
-use Rattle.af_collect.proofs.StoreInvariant.{BothInvariants, both-same, seen-changed, shown, stood}
+use Rattle.af_collect.proofs.StoreInvariant.{kept_peeked, BothInvariants, both-same, seen-changed, shown, stood}
 use Rattle.af_collect.proofs.store.Store.peek_msg.Goals as goal
 
 pub table_in_all-requires-clause-there : goal.table_in_all-requires-clause-there

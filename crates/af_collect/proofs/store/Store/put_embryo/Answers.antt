@@ -8,15 +8,13 @@ use Rattle.af_base.specs.World.{IsLive, World}
 use Rattle.af_desc.specs.FilesView.{changed}
 use Rattle.af_ledger.specs.Tally.{kept_of}
 use Rattle.af_mark.specs.MarksView.{is_marked}
-use Rattle.af_collect.proofs.SocketStates.{exact-queued}
-use Rattle.af_collect.proofs.Sends.{is-socket}
+use Rattle.af_collect.proofs.SocketStates.{exact-queued, is-socket}
 use Rattle.af_collect.specs.Keeping.{NotBegunGarbage, below}
 use Rattle.af_collect.proofs.SocketChanges.{covers_queued, moves_queued}
 use Rattle.af_collect.proofs.SparedFiles.{spared_running}
 use Rattle.af_collect.specs.StoreView.{StoreView}
 use Rattle.af_collect.specs.contracts.holdings.Holdings.{the_view}
-use Rattle.af_collect.proofs.PlaceChanges.{kept_socket}
-use Rattle.af_collect.proofs.StoreInvariant.{BothInvariants, seen-world, stood}
+use Rattle.af_collect.proofs.StoreInvariant.{kept_socket, BothInvariants, seen-world, stood}
 use Rattle.af_collect.proofs.store.Store.put_embryo.Goals as goal
 
 both : (c : goal.After-enqueue) → BothInvariants c.self.inside.collector c.holdings.inside.procs c.enqueue.new.self c.holdings.inside.ledger

@@ -9,14 +9,13 @@ use Rattle.af_ledger.proofs.ManyPlaces.{users-held_all}
 use Rattle.af_mark.specs.MarksView.{is_marked}
 use Rattle.af_collect.specs.HoldingsView.{HoldingsView}
 use Rattle.af_collect.proofs.Exact.{world-is}
-use Rattle.af_collect.proofs.Sends.{can-put, exact-put}
+use Rattle.af_collect.proofs.SocketStates.{can-put, exact-put}
 use Rattle.af_collect.specs.Keeping.{NotBegunGarbage, below}
 use Rattle.af_collect.proofs.SocketChanges.{covers_push, moves_push}
 use Rattle.af_collect.proofs.SparedFiles.{spared_running}
 use Rattle.af_collect.specs.StoreView.{StoreView}
 use Rattle.af_collect.specs.contracts.holdings.Holdings.{the_view}
-use Rattle.af_collect.proofs.PlaceChanges.{kept_socket}
-use Rattle.af_collect.proofs.StoreInvariant.{BothInvariants, both-same, shown, stood}
+use Rattle.af_collect.proofs.StoreInvariant.{kept_socket, BothInvariants, both-same, shown, stood}
 use Rattle.af_collect.proofs.store.Store.put_msg.Goals as goal
 
 pub charge_message-requires : goal.charge_message-requires

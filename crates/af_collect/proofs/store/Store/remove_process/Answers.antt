@@ -13,8 +13,7 @@ use Rattle.af_collect.specs.StoreView.{KeepsPass, KeepsPassWith, MarksAll, Store
 use Rattle.af_collect.specs.contracts.holdings.Holdings.{the_view}
 use Rattle.af_collect.specs.declared.holdings.Holdings.TheInside.{Inside}
 use Rattle.af_collect.specs.declared.collector.Collector.{Collector}
-use Rattle.af_collect.proofs.PlaceChanges.{kept_tables}
-use Rattle.af_collect.proofs.StoreInvariant.{kept-same}
+use Rattle.af_collect.proofs.StoreInvariant.{kept_tables, kept-same}
 use Rattle.af_collect.proofs.store.Store.remove_process.Goals as goal
 
 -- The files that a process loses were marked before, so the invariant of the pass holds.

@@ -3,8 +3,7 @@ use Rattle.af_base.specs.Changes.{set_limit}
 use Rattle.af_ledger.specs.Tally.{kept_of}
 use Rattle.af_collect.proofs.Exact.{exact-limited, world-is}
 use Rattle.af_collect.specs.contracts.holdings.Holdings.{the_view}
-use Rattle.af_collect.proofs.PlaceChanges.{kept_limited}
-use Rattle.af_collect.proofs.StoreInvariant.{BothInvariants, both-same, stood}
+use Rattle.af_collect.proofs.StoreInvariant.{kept_limited, BothInvariants, both-same, stood}
 use Rattle.af_collect.proofs.store.Store.set_limit.Goals as goal
 
 both : (c : goal.After-set_limit) → BothInvariants c.self.inside.collector c.set_limit.new.self c.holdings.inside.files c.holdings.inside.ledger

@@ -13,8 +13,7 @@ use Rattle.af_collect.proofs.Exact.{add-user-is, exact-spawned, world-is}
 use Rattle.af_collect.specs.Keeping.{below}
 use Rattle.af_collect.proofs.TablePlaces.{covers_spawned, moves_spawned}
 use Rattle.af_collect.specs.contracts.holdings.Holdings.{the_view}
-use Rattle.af_collect.proofs.PlaceChanges.{files_spawned, kept_tables}
-use Rattle.af_collect.proofs.StoreInvariant.{BothInvariants, both-same, seen-world, stood}
+use Rattle.af_collect.proofs.StoreInvariant.{files_spawned, kept_tables, BothInvariants, both-same, seen-world, stood}
 use Rattle.af_collect.proofs.store.Store.spawn.Goals as goal
 
 both : (c : goal.After-spawn) → BothInvariants c.self.inside.collector c.spawn.new.self c.holdings.inside.files c.add_user.new.self

@@ -1,25 +1,19 @@
-use Rattle.std.proofs.Common.{◌∙◌, ◌∷◌, ◌≡◌, None, ℕ, ap, drop, not, refl, subst, sym, true}
-use Rattle.std.specs.FinMap as map
-use Rattle.std.specs.Prelude.{IfSome, IsTrue, Some, slice_get}
+use Rattle.std.proofs.Common.{◌∙◌, ◌∷◌, ◌≡◌, ℕ, ap, drop, refl, subst, sym, true}
+use Rattle.std.specs.Prelude.{IfSome, Some, slice_get}
 use Rattle.af_base.specs.Changes.{dequeued, install, with_socket}
-use Rattle.af_base.specs.Places.{backlog_at, table_at}
+use Rattle.af_base.specs.Places.{backlog_at}
 use Rattle.af_base.specs.Reached.{Garbage}
-use Rattle.af_base.specs.Refusals.{process_at}
 use Rattle.af_base.specs.World.{World}
-use Rattle.af_base.proofs.PlaceMoves.{there-table}
-use Rattle.af_base.proofs.SoundSteps.{process-there}
-use Rattle.af_base.proofs.StaysWithin.{below-most}
 use Rattle.af_desc.specs.FilesView.{FilesView, with_moved_ref}
 use Rattle.af_ledger.specs.Counted.{IsCountable, IsCounted}
 use Rattle.af_ledger.specs.Tally.{count_in_map, kept_of}
 use Rattle.af_ledger.specs.declared.place.Place.TheVariants.{Backlog, Table}
 use Rattle.af_mark.specs.MarksView.{is_marked}
-use Rattle.af_collect.specs.Limits.{IsBelowLimit}
 use Rattle.af_collect.specs.HoldingsView.{HoldingsView}
 use Rattle.af_collect.proofs.SocketStates.{embryo-taken, exact-accepted}
 use Rattle.af_collect.proofs.Bounds.{can-drop-backlog, can-hold-table}
 use Rattle.af_collect.proofs.CountChanges.{moved-is}
-use Rattle.af_collect.proofs.Exact.{world-is}
+use Rattle.af_collect.proofs.Exact.{CanInstall, world-is}
 use Rattle.af_collect.specs.Keeping.{NotBegunGarbage, below, is_running, pass_of}
 use Rattle.af_collect.proofs.TablePlaces.{covers_install, moves_install}
 use Rattle.af_collect.proofs.SocketChanges.{covers_dequeued, moves_dequeued}
@@ -28,8 +22,7 @@ use Rattle.af_collect.specs.StoreView.{MarksAll, StoreView}
 use Rattle.af_collect.specs.contracts.holdings.Holdings.{the_view}
 use Rattle.af_collect.specs.declared.collector.Collector.{Collector}
 use Rattle.af_collect.proofs.LostFiles.{embryo_held, first_taken}
-use Rattle.af_collect.proofs.PlaceChanges.{kept_socket, kept_tables}
-use Rattle.af_collect.proofs.StoreInvariant.{BothInvariants, both-same, stood}
+use Rattle.af_collect.proofs.StoreInvariant.{kept_socket, kept_tables, BothInvariants, both-same, stood}
 use Rattle.af_collect.proofs.store.Store.take_embryo.Goals as goal
 
 pub move_to_table-requires-clause-counted : goal.move_to_table-requires-clause-counted
@@ -61,10 +54,7 @@ both c =
     let was = stood q h c.holdings.view_is c.holdings.invariant e.kept in
     let back = sym (ap (λ (t : HoldingsView). t.world) c.holdings.view_is ∙ ap (λ (o : Collector). o.holdings.world) e.frame ∙ ap (λ (t : StoreView). t.world) c.self.view_is) in
     let x = embryo-taken w s f c.dequeue.result c.unwrap-embryo.ensures c.dequeue.ensures.some in
-    let there = process-there w pid (ap not (subst (λ (v : World). IsTrue (map.contains_key v.processes pid)) back c.requires.there)) in
-    let free = subst (λ (v : World). table_at v pid fd ≡ None) back c.requires.free in
-    let none = sym (there-table w pid fd (process_at w pid) there) ∙ free in
-    let low = below-most w pid fd (process_at w pid) was.0.within there (subst (λ (v : World). IsBelowLimit v pid fd) back c.requires.limit (process_at w pid) there) in
+    let can = subst (λ (v : World). CanInstall v pid fd) back (c.requires.there, c.requires.limit, c.requires.free) in
     let files = c.move_to_table.ensures ∙ ap (with_moved_ref Backlog f) c.dequeue.ensures.rest ∙ moved-is Backlog f _ in
     let spared = subst (λ (o : Collector). NotBegunGarbage (pass_of o.progress.stage o.begun.value.world o.progress.looked) s) (sym e.frame) (subst (λ (t : StoreView). NotBegunGarbage t.pass s) (sym c.self.view_is) c.requires.spared) in
     let shaded = subst (λ (o : Collector). MarksAll (λ g. slice_get (backlog_at o.holdings.world s) 0 ≡ Some g) o q) (sym e.frame) e.marked in
@@ -73,8 +63,8 @@ both c =
     let first : slice_get (backlog_at w s) 0 ≡ Some f = ap (λ xs. slice_get xs 0) (subst (λ o. IfSome o (λ g. backlog_at w s ≡ g ∷ drop 1 (backlog_at w s))) c.unwrap-embryo.ensures c.dequeue.ensures.some) in
     let v = with_socket w s dequeued in
     subst (λ fs. BothInvariants q c.install.new.self fs h.ledger) (sym files) (both-same _ (install v pid fd f) _ _ _ _ (world-is _ _ c.install.ensures.processes refl refl c.install.ensures.next refl) refl refl
-    (exact-accepted w s f x.0 (kept_of h.files.counts h.ledger) x.1 x.2 was.0 pid fd (process_at w pid) there none low)
-    (kept_tables (install v pid fd f) refl refl (λ t. moves_install begun v pid fd f (stray f first t)) (λ _. covers_install begun v pid fd f (is_marked h.files.marks) (below q.progress.visited) free)
+    (exact-accepted w s f x.0 (kept_of h.files.counts h.ledger) x.1 x.2 was.0 pid fd can)
+    (kept_tables (install v pid fd f) refl refl (λ t. moves_install begun v pid fd f (stray f first t)) (λ _. covers_install begun v pid fd f (is_marked h.files.marks) (below q.progress.visited) can.2)
     (kept_socket s dequeued (λ _. moves_dequeued begun w s) (λ t. covers_dequeued begun w s (is_marked h.files.marks) (below q.progress.visited) (marked t) (λ g is. stray g is (marking_runs q.progress.stage t))) was.1)))
 
 pub invariant_of-holdings : goal.invariant_of-holdings

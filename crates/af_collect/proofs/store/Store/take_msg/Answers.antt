@@ -13,8 +13,7 @@ use Rattle.af_collect.proofs.Exact.{exact-same, install-filled, users-filled, wo
 use Rattle.af_collect.proofs.Receives.{can-drop-received, counted, exact-received, received_at, tabled, taken_queue, files-fit, receives-within, spared-within}
 use Rattle.af_collect.specs.Keeping.{shaded_in}
 use Rattle.af_collect.specs.contracts.holdings.Holdings.{the_view}
-use Rattle.af_collect.proofs.PlaceChanges.{kept_taken}
-use Rattle.af_collect.proofs.StoreInvariant.{BothInvariants, both-same, seen-moved, shown, stood}
+use Rattle.af_collect.proofs.StoreInvariant.{kept_taken, BothInvariants, both-same, seen-moved, shown, stood}
 use Rattle.af_collect.proofs.store.Store.take_msg.Goals as goal
 
 pub receive_all-requires-clause-there : goal.receive_all-requires-clause-there
