@@ -122,8 +122,7 @@ module _ (names : NamesView) (m : Map File) (h : AreNamed names m) (name : List 
     alone q f e is (inl same) = none_some q (sym gone ∙ sym (ap (name_in (map.remove m k)) same) ∙ is)
     alone q f e is (inr far) =
         let at_f = (h.each q f).1 (was q f is (inr far)) in
-        let at_k = (h.each name k).1 had in
-        not_same f k far (some_same f k (sym at_f ∙ ap (map.get names) e ∙ at_k))
+        not_same f k far (some_same f k (sym at_f ∙ ap (map.get names) e ∙ ((h.each name k).1 had)))
 
     stays : (q : List ℕ) (f : ℕ) → eq_by_cmp (slice_cmp nat_cmp) q name ≡ false → map.get names q ≡ Some f → (f ≡ k) ⊎ (nat_eq f k ≡ false) → name_in (map.remove m k) f ≡ Some q
     stays q f e is (inl same) =

@@ -1,10 +1,6 @@
 pub mod FirstNumber
-pub mod Embryos
 pub mod FileNames
-pub mod FilesInvariant
 pub mod TrackedTableView
-pub mod DirtyList
 pub mod ToldLists
-pub mod Visits
 pub mod ClearedMarks
-pub mod Whites
+pub mod FilesInvariant

@@ -1,5 +1,4 @@
--- Three maps of one row, as a row is added, changed in one part, and removed; and the messages of
--- all.
+-- Three maps of one row, as it is added, changed in part, and removed; the messages of all.
 use Rattle.std.proofs.Common.{◌≡◌, ℕ, ◌⊎◌, inl, inr, false, List, [], refl, sym, ap, ◌∙◌, subst, nat_eq}
 use Rattle.std.specs.Prelude.{Option, Some, None, IfSome, if◌then◌else◌, is_some, nat_lt, option_map}
 use Rattle.std.specs.Option.{option_and_then}

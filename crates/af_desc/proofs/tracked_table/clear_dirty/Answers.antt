@@ -3,7 +3,7 @@ use Rattle.std.specs.FinMap as map
 use Rattle.af_base.specs.World.{Map}
 use Rattle.af_desc.specs.FileTableView.{FileTableView}
 use Rattle.af_desc.specs.Told.{IsDirtyList}
-use Rattle.af_desc.proofs.DirtyList.{struck-last}
+use Rattle.af_desc.proofs.ToldLists.{struck-last}
 use Rattle.af_desc.proofs.tracked_table.clear_dirty.Goals as goal
 
 pub loop-file-preserved : goal.loop-file-preserved

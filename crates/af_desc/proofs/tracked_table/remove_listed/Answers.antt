@@ -2,7 +2,7 @@ use Rattle.std.proofs.Common.{rules, ◌≡◌, ◌-◌, ℕ, length, false}
 use Rattle.std.specs.Option.{option_map_or}
 use Rattle.std.specs.FinMap as map
 use Rattle.af_base.specs.Counts.{count_in, one}
-use Rattle.af_desc.proofs.DirtyList.{struck-empty, struck-listed, struck-other}
+use Rattle.af_desc.proofs.ToldLists.{struck-empty, struck-listed, struck-other}
 use Rattle.af_desc.proofs.tracked_table.remove_listed.Goals as goal
 
 pub returns-then-is_empty-clause-listed : goal.returns-then-is_empty-clause-listed

@@ -9,9 +9,8 @@ pub push_reserved-requires : goal.push_reserved-requires
 push_reserved-requires c =
     let there : map.contains_key c.args.table.now.counts c.args.file.now ≡ true = search rules in
     let asked : c.args.asked ≡ true = search rules in
-    let fits = c.requires.fits asked in
     let some = lived c.args.table.now.counts c.args.file.now there in
-    omega (arith, fits, some, c.args.released.now.ok.0)
+    omega (arith, c.requires.fits asked, some, c.args.released.now.ok.0)
 
 pub returns-clause-goes : goal.returns-clause-goes
 returns-clause-goes c = λ asked.

@@ -2,7 +2,6 @@ use Rattle.std.proofs.Common.{◌≡◌, ◌∙◌, sym, ap}
 use Rattle.std.specs.Prelude.{Some, None}
 use Rattle.std.specs.FinMap as map
 use Rattle.std.specs.Option.{option_copied}
-use Rattle.af_base.specs.Refusals.{socket_of}
 use Rattle.af_desc.specs.FilesView.{socket_in}
 use Rattle.af_desc.specs.FileTableView.{FileTableView}
 use Rattle.af_desc.proofs.TrackedTableView.{socket_at, stranger_is_none}

@@ -14,10 +14,8 @@ use Rattle.af_mark.specs.Grey.{AreGrey}
 use Rattle.af_mark.specs.MarksView.{is_grey_color}
 use Rattle.af_mark.specs.declared.color.Color.{Color}
 use Rattle.af_desc.specs.FilesView.{FilesInvariant, FilesView, after_end, freed, name_in, without, without_file_ref}
-use Rattle.af_desc.proofs.Embryos.{counted-fewer}
+use Rattle.af_desc.proofs.FilesInvariant.{counted-fewer, filed-counted, filed-removed, seen, seen-without, white-gone}
 use Rattle.af_desc.proofs.FileNames.{name-at, named-gone}
-use Rattle.af_desc.proofs.FilesInvariant.{filed-counted, filed-removed, seen, seen-without}
-use Rattle.af_desc.proofs.Whites.{white-gone}
 use Rattle.af_desc.proofs.files.Files.drop_descriptor.Goals.{After-sub_descriptor}
 use Rattle.af_desc.proofs.files.Files.drop_descriptor.Goals as goal
 
@@ -59,8 +57,7 @@ push_reserved-requires c =
     let a = c.self.inside in
     let one = c.sub_descriptor.ensures in
     let low = (lowered-pushed a.rows.counts _ a.unreferenced.items c.args.file.now c.self.invariant.unreferenced_listed Table (ap (λ r. r.counts) one.counts) (counted (goal.at.push_reserved-requires c).After-sub_descriptor) (sym one.last ∙ ap is_some c.in-Some.is)).1 in
-    let fits = c.self.invariant.fits in
-    omega (arith, low, fits, one.len, a.unreferenced.ok.0)
+    omega (arith, low, c.self.invariant.fits, one.len, a.unreferenced.ok.0)
 
 pub invariant_of-self-2 : goal.invariant_of-self-2
 invariant_of-self-2 c =

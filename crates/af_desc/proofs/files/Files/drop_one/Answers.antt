@@ -4,8 +4,7 @@ use Rattle.af_ledger.specs.Counted.{IsCounted}
 use Rattle.af_ledger.specs.Tally.{AreUnreferenced, count_in_map}
 use Rattle.af_ledger.proofs.Unreferenced.{lowered-kept, lowered-pushed}
 use Rattle.af_desc.specs.FilesView.{FilesView}
-use Rattle.af_desc.proofs.Embryos.{counted-fewer}
-use Rattle.af_desc.proofs.FilesInvariant.{filed-counted}
+use Rattle.af_desc.proofs.FilesInvariant.{counted-fewer, filed-counted}
 use Rattle.af_desc.proofs.files.Files.drop_one.Goals as goal
 
 pub push_reserved-requires : goal.push_reserved-requires
@@ -14,8 +13,7 @@ push_reserved-requires c =
     let counted = subst (λ (v : FilesView). IsCounted c.args.place.now (count_in_map v.counts c.args.file.now)) (sym c.self.view_is) c.requires in
     let one = c.sub_ref-last.ensures in
     let low = (lowered-pushed a.rows.counts _ a.unreferenced.items c.args.file.now c.self.invariant.unreferenced_listed c.args.place.now (ap (λ r. r.counts) one.counts) counted (sym one.last ∙ c.if-last.true)).1 in
-    let fits = c.self.invariant.fits in
-    omega (arith, low, fits, one.len, a.unreferenced.ok.0)
+    omega (arith, low, c.self.invariant.fits, one.len, a.unreferenced.ok.0)
 
 pub invariant_of-self : goal.invariant_of-self
 invariant_of-self c =

@@ -2,7 +2,7 @@ use Rattle.std.proofs.Common.{ap, sym, ◌∙◌}
 use Rattle.std.proofs.lemmas.Bool.{ltb-false}
 use Rattle.af_ledger.specs.Tally.{count_in_map}
 use Rattle.af_desc.specs.FilesView.{FilesView}
-use Rattle.af_desc.proofs.Embryos.{embryos-none}
+use Rattle.af_desc.proofs.FilesInvariant.{embryos-none}
 use Rattle.af_desc.proofs.files.Files.has_embryos.Goals as goal
 
 pub returns : goal.returns

@@ -1,8 +1,7 @@
 use Rattle.std.proofs.Common.{rules, arith, refl, sym, ◌∙◌}
 use Rattle.std.specs.Prelude.{vec_capacity}
 use Rattle.af_ledger.proofs.Unreferenced.{raised-kept, raised-off}
-use Rattle.af_desc.proofs.Embryos.{counted-more}
-use Rattle.af_desc.proofs.FilesInvariant.{filed-counted}
+use Rattle.af_desc.proofs.FilesInvariant.{counted-more, filed-counted}
 use Rattle.af_desc.proofs.files.Files.hold.Goals as goal
 
 pub invariant_of-self : goal.invariant_of-self

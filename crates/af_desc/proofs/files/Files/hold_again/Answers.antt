@@ -5,8 +5,7 @@ use Rattle.af_ledger.specs.Counted.{places_in}
 use Rattle.af_ledger.specs.Tally.{count_in_map}
 use Rattle.af_ledger.proofs.Unreferenced.{raised-kept}
 use Rattle.af_desc.specs.FilesView.{FilesView}
-use Rattle.af_desc.proofs.Embryos.{counted-more}
-use Rattle.af_desc.proofs.FilesInvariant.{filed-counted}
+use Rattle.af_desc.proofs.FilesInvariant.{counted-more, filed-counted}
 use Rattle.af_desc.proofs.files.Files.hold_again.Goals as goal
 
 pub invariant_of-self : goal.invariant_of-self

@@ -8,11 +8,10 @@ use Rattle.af_desc.proofs.files.Files.make.Goals as goal
 
 pub push-file-requires : goal.push-file-requires
 push-file-requires c =
-    let low = c.self.invariant.last in
     let room = c.in_ok-reserve.ensures.room in
     record {
       room = omega (arith, room);
-      next = omega (arith, low, ap (λ r. r.last) c.reserve.ensures.rows);
+      next = omega (arith, c.self.invariant.last, ap (λ r. r.last) c.reserve.ensures.rows);
       number = omega (arith, c.requires.number, ap (λ a. a.next) c.self.view_is);
     }
 

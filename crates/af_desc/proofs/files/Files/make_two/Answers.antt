@@ -20,11 +20,10 @@ use Rattle.af_desc.proofs.files.Files.make_two.Goals as goal
 
 pub push-first-requires : goal.push-first-requires
 push-first-requires c =
-    let low = c.self.invariant.last in
     let room = c.in_ok-reserve.ensures.room in
     record {
       room = omega (arith, room);
-      next = omega (arith, low, ap (λ r. r.last) c.reserve.ensures.rows);
+      next = omega (arith, c.self.invariant.last, ap (λ r. r.last) c.reserve.ensures.rows);
       number = search (rules, arith);
     }
 

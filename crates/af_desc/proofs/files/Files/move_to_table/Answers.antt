@@ -4,8 +4,7 @@ use Rattle.af_ledger.specs.Counted.{IsCounted}
 use Rattle.af_ledger.specs.Tally.{count_in_map}
 use Rattle.af_ledger.proofs.Unreferenced.{moved-kept}
 use Rattle.af_desc.specs.FilesView.{FilesView}
-use Rattle.af_desc.proofs.Embryos.{counted-moved}
-use Rattle.af_desc.proofs.FilesInvariant.{filed-counted}
+use Rattle.af_desc.proofs.FilesInvariant.{counted-moved, filed-counted}
 use Rattle.af_desc.proofs.files.Files.move_to_table.Goals as goal
 
 pub invariant_of-self : goal.invariant_of-self

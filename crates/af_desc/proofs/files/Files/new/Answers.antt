@@ -10,9 +10,8 @@ use Rattle.af_mark.specs.MarksView.{is_grey_color}
 use Rattle.af_mark.specs.declared.mark.Mark.{Mark}
 use Rattle.af_mark.proofs.Colors.{upto_none}
 use Rattle.ordered_slab.proofs.Parts.{part_none}
-use Rattle.af_desc.proofs.Embryos.{embryos-empty}
+use Rattle.af_desc.proofs.FilesInvariant.{embryos-empty, white-none}
 use Rattle.af_desc.proofs.FileNames.{named-none-yet}
-use Rattle.af_desc.proofs.Whites.{white-none}
 use Rattle.af_desc.proofs.files.Files.new.Goals as goal
 
 pub invariant_of-result : goal.invariant_of-result

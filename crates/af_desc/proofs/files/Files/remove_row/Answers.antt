@@ -3,8 +3,7 @@ use Rattle.std.specs.Prelude.{nat_lt, vec_capacity}
 use Rattle.af_base.specs.Counts.{count_in, one}
 use Rattle.af_mark.specs.MarksView.{is_grey, is_unmarked}
 use Rattle.af_desc.specs.FilesView.{without}
-use Rattle.af_desc.proofs.FilesInvariant.{filed-removed, seen, seen-without}
-use Rattle.af_desc.proofs.Whites.{white-gone, white-seen}
+use Rattle.af_desc.proofs.FilesInvariant.{filed-removed, seen, seen-without, white-gone, white-seen}
 use Rattle.af_desc.proofs.files.Files.remove_row.Goals as goal
 
 pub overflow_sub-self : goal.overflow_sub-self

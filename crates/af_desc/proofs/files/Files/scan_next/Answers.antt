@@ -4,8 +4,7 @@ use Rattle.af_mark.specs.MarksView.{blackened, is_grey}
 use Rattle.af_base.specs.Places.{held_in}
 use Rattle.af_desc.specs.FilesView.{FilesView}
 use Rattle.af_desc.specs.Holding.{IsContents}
-use Rattle.af_desc.proofs.FilesInvariant.{seen}
-use Rattle.af_desc.proofs.Visits.{filed-scanned, last-grey, last-known, seen-scanned}
+use Rattle.af_desc.proofs.FilesInvariant.{seen, filed-scanned, last-grey, last-known, seen-scanned}
 use Rattle.af_desc.proofs.files.Files.scan_next.Goals as goal
 
 -- The last of the list has a mark.

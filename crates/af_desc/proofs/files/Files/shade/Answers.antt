@@ -5,8 +5,7 @@ use Rattle.af_mark.specs.Grey.{grey_mark}
 use Rattle.af_mark.specs.MarksView.{MarksView, shaded}
 use Rattle.af_desc.specs.FilesView.{FilesView}
 use Rattle.af_desc.specs.TrackedTableView.{TrackedTableView}
-use Rattle.af_desc.proofs.FilesInvariant.{seen}
-use Rattle.af_desc.proofs.Visits.{few-white, filed-grey, seen-shaded, shaded-not}
+use Rattle.af_desc.proofs.FilesInvariant.{seen, few-white, filed-grey, seen-shaded, shaded-not}
 use Rattle.af_desc.proofs.files.Files.shade.Goals as goal
 
 -- The view of the files after the call, from the view before.

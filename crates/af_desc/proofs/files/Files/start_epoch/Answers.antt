@@ -2,8 +2,7 @@ use Rattle.std.proofs.Common.{rules, sym, ap, ◌∙◌, arith}
 use Rattle.std.specs.Prelude.{vec_capacity}
 use Rattle.std.specs.FinMap as map
 use Rattle.af_mark.proofs.Colors.{color_known}
-use Rattle.af_desc.proofs.FilesInvariant.{filed-renewed}
-use Rattle.af_desc.proofs.Whites.{white-begun}
+use Rattle.af_desc.proofs.FilesInvariant.{filed-renewed, white-begun}
 use Rattle.af_desc.proofs.files.Files.start_epoch.Goals as goal
 
 pub returns-clause-known : goal.returns-clause-known

@@ -8,8 +8,7 @@ use Rattle.af_mark.specs.declared.mark.Mark.{Mark}
 use Rattle.af_mark.proofs.Colors.{color_after, color_known, color_now, same_marked}
 use Rattle.af_mark.proofs.GreyList.{grey-known, listed-black, listed-moved}
 use Rattle.af_desc.specs.TrackedTableView.{TrackedTableView}
-use Rattle.af_desc.proofs.FilesInvariant.{filed-marked}
-use Rattle.af_desc.proofs.Whites.{white-moved, white-scanned}
+use Rattle.af_desc.proofs.FilesInvariant.{filed-marked, white-moved, white-scanned}
 use Rattle.af_desc.proofs.files.Files.take_grey.Goals as goal
 
 pub set_mark-requires : goal.set_mark-requires

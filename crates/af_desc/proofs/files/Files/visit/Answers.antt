@@ -3,8 +3,7 @@ use Rattle.std.specs.Prelude.{is_some}
 use Rattle.af_ledger.specs.Tally.{count_in_map}
 use Rattle.af_mark.specs.MarksView.{MarksView, is_unmarked, visited}
 use Rattle.af_desc.specs.FilesView.{FilesView}
-use Rattle.af_desc.proofs.FilesInvariant.{seen}
-use Rattle.af_desc.proofs.Visits.{due-within, few-white, filed-black, seen-visited, visited-not, due-white}
+use Rattle.af_desc.proofs.FilesInvariant.{seen, due-within, few-white, filed-black, seen-visited, visited-not, due-white}
 use Rattle.af_desc.proofs.files.Files.visit.Goals as goal
 
 -- The view of the files after the call, from the view before.

@@ -1,10 +1,9 @@
-use Rattle.std.proofs.Common.{◌≡◌, true, sym, subst, ap, arith}
-use Rattle.std.specs.FinMap as map
+use Rattle.std.proofs.Common.{sym, subst}
 use Rattle.af_ledger.specs.Counted.{IsCounted}
 use Rattle.af_ledger.specs.Tally.{count_in_map}
 use Rattle.af_ledger.proofs.Unreferenced.{counted-known}
 use Rattle.af_desc.specs.TrackedTableView.{TrackedTableView}
-use Rattle.af_desc.proofs.ToldLists.{told-counted}
+use Rattle.af_desc.proofs.ToldLists.{tracks-counted}
 use Rattle.af_desc.proofs.tracked_table.TrackedTable.move_to_table.Goals as goal
 
 pub invariant_of-self : goal.invariant_of-self
@@ -12,5 +11,4 @@ invariant_of-self c =
     let k = c.args.file.now in
     let e = c.move_to_table.ensures in
     let counted = subst (λ (v : TrackedTableView). IsCounted c.args.from.now (count_in_map v.counts k)) (sym c.self.view_is) c.requires.counted in
-    let there : map.contains_key c.self.inside.table.counts k ≡ true = counted-known c.args.from.now c.self.inside.table.counts k counted in
-    (told-counted c.self.inside.table c.move_to_table.new.self _ _ _ _ _ _ c.self.invariant.0 k _ e.counts there e.len, c.self.invariant.1, (let low = c.self.invariant.2 in omega (arith, low, ap (λ l. l.room) e.counts)), (let few = c.self.invariant.3 in omega (arith, few, e.len)))
+    tracks-counted c.self.inside c.self.invariant c.move_to_table.new.self k _ e.counts (counted-known c.args.from.now c.self.inside.table.counts k counted) e.len

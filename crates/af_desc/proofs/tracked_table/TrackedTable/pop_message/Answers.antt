@@ -1,17 +1,11 @@
-use Rattle.std.proofs.Common.{ap, ◌∙◌}
-use Rattle.std.specs.Prelude.{vec_capacity}
 use Rattle.af_desc.specs.FilesView.{popped}
-use Rattle.af_desc.proofs.ToldLists.{room-kept, rooms, told-after, told-silent}
+use Rattle.af_desc.proofs.ToldLists.{tracks-after, tracks-silent}
 use Rattle.af_desc.proofs.tracked_table.TrackedTable.pop_message.Goals as goal
 
 pub invariant_of-self : goal.invariant_of-self
-invariant_of-self c =
-    let kept = room-kept c.self.inside.table c.pop_message.new.self _ _ (ap rooms c.pop_message.ensures.rest) (c.self.invariant.2, c.self.invariant.3) in
-    (told-silent c.self.inside.table c.pop_message.new.self _ _ _ _ _ _ c.args.file.now _ c.self.invariant.0 c.in_err-first.ensures.none c.pop_message.ensures.rest, c.self.invariant.1, kept.0, kept.1)
+invariant_of-self c = tracks-silent c.self.inside c.self.invariant c.pop_message.new.self c.args.file.now _ c.in_err-first.ensures.none c.pop_message.ensures.rest
 
 pub invariant_of-self-2 : goal.invariant_of-self-2
 invariant_of-self-2 c =
-    let a = c.self.inside in
     let n = c.add_dirty.ensures in
-    let kept = room-kept a.table c.add_dirty.new.table _ _ (ap rooms n.dirty.rest ∙ ap rooms c.pop_message.ensures.rest) (c.self.invariant.2, c.self.invariant.3) in
-    (told-after a.table c.pop_message.new.self c.add_dirty.new.table a.changed.items _ (vec_capacity a.changed) _ a.released.items (vec_capacity a.released) _ _ c.args.file.now popped _ c.self.invariant.0 c.pop_message.ensures.rest n.dirty n.listed n.still n.capacity, c.self.invariant.1, kept.0, kept.1)
+    tracks-after c.self.inside c.self.invariant c.pop_message.new.self c.args.file.now popped _ c.pop_message.ensures.rest c.add_dirty.new.table _ _ n.dirty n.listed n.still n.capacity

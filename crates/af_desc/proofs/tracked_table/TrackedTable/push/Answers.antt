@@ -7,8 +7,7 @@ use Rattle.af_base.specs.Told.{is_socket_in}
 use Rattle.af_ledger.specs.Counted.{more, uncounted}
 use Rattle.af_desc.specs.TrackedTableView.{TrackedTableView, file_of}
 use Rattle.af_desc.specs.Told.{MakesDirty, since_of}
-use Rattle.af_desc.proofs.DirtyList.{dirty-pushed, dirty-socket, pushed-listed, socket-new}
-use Rattle.af_desc.proofs.ToldLists.{accounted-pushed, accounted-same}
+use Rattle.af_desc.proofs.ToldLists.{dirty-pushed, dirty-socket, pushed-listed, socket-new, accounted-pushed, accounted-same}
 use Rattle.af_desc.proofs.tracked_table.TrackedTable.push.Goals as goal
 use Rattle.af_desc.proofs.tracked_table.TrackedTable.push.Goals.{then-self, else-self}
 
@@ -38,7 +37,6 @@ invariant_of-self c =
     let h = c.self.invariant.0 in
     let some = c.requires.room in
     let is = ap (λ (v : TrackedTableView). v.room) c.self.view_is in
-    let low = c.self.invariant.2 in
     let few = c.self.invariant.3 in
     let dirty = len-insert_most a.table.dirty c.args.ino false in
     let counted = len-insert_most a.table.counts c.args.ino (more c.args.place.now uncounted) in
@@ -59,6 +57,6 @@ invariant_of-self c =
         roomy = record { changed = λ asked. let enough = h.roomy.changed asked in omega (arith, enough, n.capacity); released = h.roomy.released };
       },
       c.self.invariant.1,
-      omega (arith, some, is, low, p.room, ap (λ l. l.room) n.dirty.rest),
+      omega (arith, some, is, c.self.invariant.2, p.room, ap (λ l. l.room) n.dirty.rest),
       omega (arith, some, is, few, counted, ap (λ l. map.len l.counts) p.pushed, ap (λ l. map.len l.counts) n.dirty.rest),
     )

@@ -5,8 +5,7 @@ use Rattle.std.specs.FinMap as map
 use Rattle.ordered_slab.proofs.Values.{gone_few}
 use Rattle.af_desc.specs.FileTableView.{without_entry}
 use Rattle.af_desc.specs.contracts.tracked_table.TrackedTable as contract
-use Rattle.af_desc.proofs.DirtyList.{dirty-gone, struck-empty}
-use Rattle.af_desc.proofs.ToldLists.{accounted-gone}
+use Rattle.af_desc.proofs.ToldLists.{dirty-gone, struck-empty, accounted-gone}
 use Rattle.af_desc.proofs.tracked_table.TrackedTable.remove.Goals as goal
 use Rattle.af_desc.proofs.tracked_table.TrackedTable.remove.Goals.{then-self, else-self}
 
