@@ -124,6 +124,8 @@ rest-vacated : (s : Stage) (o : Option ℕ) (v : FilesView) → vacated s o v �
 rest-vacated s None v = refl
 rest-vacated s (Some f) v = refl
 
+-- ---- both invariants
+
 -- A descriptor that is not open: nothing changes.
 module _ (p : Collector) (h : Inside) (pid fd : ℕ) (free : table_at (the_view h).world pid fd ≡ None) (procs : Procs) (processes : procs.processes ≡ (uninstall (the_view h).world pid fd).processes) (next : procs.next_pid ≡ h.procs.next_pid) where
   -- The processes are as they were.

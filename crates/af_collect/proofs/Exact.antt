@@ -1,12 +1,10 @@
--- A store stays exact, whatever changes in its world and in its ledger at once: the numbers kept
--- stay the recounts.
+-- A store stays exact, whatever changes at once in its world and in its ledger.
 use Rattle.std.proofs.Common.{◌≡◌, ◌<◌, ℕ, ◌+◌, Bool, true, false, inl, inr, List, [], ◌∷◌, ◌++◌, drop, length, refl, sym, ap, ◌∙◌, subst, cond, nat_eq, arith, ◌≤◌, zero, suc, not, map}
 use Rattle.std.specs.Prelude.{Some, None, IsTrue, unwrap_or, Option, IfNone, IfSome, is_some, if◌then◌else◌}
 use Rattle.std.specs.List.{list_any, sum_by, Contains, zip}
 use Rattle.std.specs.FinMap as finmap
 use Rattle.std.specs.Map.{lookup, keys_of}
 use Rattle.std.specs.Ordering.{nat_cmp}
-use Rattle.std.specs.Cmp.{nat_cmp_total, unsigned_tied}
 use Rattle.std.specs.Option.{option_map_or}
 use Rattle.std.proofs.lemmas.Bool.{eqb-true, false≢true}
 use Rattle.af_base.specs.World.{AsSocket, File, Map, Message, Plain, Process, Socket, World, empty_world, IsLive, is_live}
@@ -50,6 +48,7 @@ use Rattle.af_ledger.proofs.Laws.{charge-added, count-entered, count-struck, inf
 use Rattle.af_ledger.proofs.Users.{user-added, user-stays}
 use Rattle.af_collect.specs.Agreement.{Agrees, IsExact}
 use Rattle.af_collect.proofs.FreedFiles.{same_backlog}
+use Rattle.af_collect.proofs.MarkTests.{has_put}
 use Rattle.af_collect.proofs.Recounts.{charged-push, charged-shed, tabled-install, tabled-uninstall, total-new, total-weightless, waiting-dequeued, Sheds}
 use Rattle.af_collect.specs.HoldingsView.{filled}
 use Rattle.af_collect.specs.Limits.{IsBelowLimit}
@@ -399,10 +398,7 @@ exact-gone w f x k is bare silent none h = record {
 
 -- The live files with one more.
 pub live-added : (w : World) (x : File) (g : ℕ) → is_live (add_file w x) g ≡ cond (nat_eq g w.next_ino) true (is_live w g)
-live-added w x g = ap is_some (finmap.get-insert nat_cmp_total w.files w.next_ino x g ∙ ap (λ b. cond b (Some x) (finmap.get w.files g)) (unsigned_tied g w.next_ino)) ∙ by (nat_eq g w.next_ino) where
-  by : (b : Bool) → is_some (cond b (Some x) (finmap.get w.files g)) ≡ cond b true (is_live w g)
-  by true = refl
-  by false = refl
+live-added w x g = has_put w.files w.next_ino x g
 
 -- A file with the next number is new to the ledger.
 pub next-new : (w : World) (k : Tally) (f : ℕ) → IsExact w k → w.next_ino ≤ f → has_count k f ≡ false

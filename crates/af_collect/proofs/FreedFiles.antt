@@ -63,6 +63,8 @@ emptied-bare w s silent bare = ap (λ fs. record w { files = fs }) (map.same_map
   by f false e = same (map.get w.files f)
   by f true e = subst (λ g. option_map empty_file (map.get w.files g) ≡ map.get w.files g) (eqb-true s f e) (here (map.get w.files s) silent bare)
 
+-- ---- a freed file
+
 -- The files without one of them, whose peer has hung up, are those of the world without it.
 module _ (m : Map File) (f : ℕ) where
   -- It is so by the state of the one.

@@ -20,8 +20,7 @@ pub mod SparedFiles
 pub mod EmptiedSockets
 pub mod TablePlaces
 pub mod SocketChanges
--- The duties of each change to the pass: lost files are shaded before, and the invariant holds
--- after.
+-- The duties of each change to the pass: lost files are shaded first, and its invariant holds.
 pub mod FileContents
 pub mod LostFiles
 pub mod NewFiles

@@ -268,8 +268,10 @@ known_world v w m live h f = h f ∙ sym (live f)
 pub known_marks : (w : World) (m n : MarksView) → ((f : ℕ) → knows n f ≡ knows m f) → AreKnown w m → AreKnown w n
 known_marks w m n same h f = same f ∙ h f
 
+-- ---- which files the marks know
+
 -- A map with a value put in has it, beside what it had.
-has_put : {X : Type 0} (m : Map X) (k : ℕ) (v : X) (f : ℕ) → map.contains_key (map.insert m k v) f ≡ cond (nat_eq f k) true (map.contains_key m f)
+pub has_put : {X : Type 0} (m : Map X) (k : ℕ) (v : X) (f : ℕ) → map.contains_key (map.insert m k v) f ≡ cond (nat_eq f k) true (map.contains_key m f)
 has_put m k v f = ap is_some (map.get-insert nat_cmp_total m k v f ∙ ap (λ b. cond b (Some v) (map.get m f)) (unsigned_tied f k)) ∙ by (nat_eq f k) where
   by : (b : Bool) → is_some (cond b (Some v) (map.get m f)) ≡ cond b true (map.contains_key m f)
   by true = refl

@@ -46,8 +46,7 @@ use Rattle.af_collect.specs.declared.holdings.Holdings.TheInside.{Inside}
 use Rattle.af_collect.specs.declared.collector.Collector.{Collector}
 use Rattle.af_collect.proofs.StoreInvariant.{kept_made, kept_socket, kept_tables, made_spared, BothInvariants, both-same, seen-world, shown}
 
--- The needs of a connect: room for a file, a client that was never connected, and a listener with
--- room for an embryo (connect(2)).
+-- The needs of connect(2): room for a file, a client never connected, and a listener with room.
 abbrev pub Connects : World → ℕ → ℕ → Type 0
 Connects w s l = (is_full w 1 ≡ false) × (is_none (socket_at w s) ≡ false) × IfSome (socket_at w s) (λ x. x.state ≡ state.Idle) × (is_none (socket_at w l) ≡ false) × IfSome (socket_at w l) (λ x. length x.backlog < room_of x.state)
 
@@ -94,8 +93,7 @@ module _ (p : Place) (m : Map Count) (a : ℕ) where
     second : (other : nat_eq b a ≡ false) → uncounted ≡ count_in_map one b
     second other = sym (ap (λ o. unwrap_or o uncounted) (insert-other both a (more p (count_in_map both a)) b other ∙ insert-here (map.insert m a uncounted) b uncounted))
 
-    -- Two that are counted with no place, and then with one each, are two that are counted with
-    -- one.
+    -- Two that are counted with no place, and then with one each, are counted with one.
     pair-held : nat_eq b a ≡ false → map.insert (map.insert m a (more p uncounted)) b (more p uncounted) ≡ map.insert one b (more p (count_in_map one b))
     pair-held other =
         put_both (more p uncounted) ∙ ap (λ c. map.insert (map.insert both a (more p c)) b (more p uncounted)) first

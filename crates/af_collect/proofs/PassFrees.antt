@@ -121,8 +121,7 @@ module _ (begun old : World) (x : ℕ) where
           let live : is_live old x ≡ is_live begun x = l ∙ sym (ap is_some is) in
           λ j. sym kind j && (live j && not (marked x))
 
-      -- Of the sockets of the begin that are live and not marked, one less is left where x is one
-      -- of them, and else as many.
+      -- One live unmarked socket of the begin less is left where x is one, and else as many.
       pub left_drop : IsLive old x → left_count begun old marked ≡ left_count begun rest (but marked x) + (if is_reclaimed marked then 1 else 0)
       left_drop l = by (is_reclaimed marked) refl where
         by : (b : Bool) → is_reclaimed marked ≡ b → left_count begun old marked ≡ left_count begun rest (but marked x) + (if b then 1 else 0)

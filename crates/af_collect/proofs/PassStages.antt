@@ -41,8 +41,7 @@ module _ {begun now : World} {marked grey visited : ℕ → Bool} (bound : ℕ) 
         | inr (inr waits) ↦ absurd (false≢true (sym waits.1 ∙ scanned s (reached_marked s r waits.0)))
       ]
 
-  -- Where marking has ended, a file of the begin that lives is not marked exactly where it was
-  -- garbage.
+  -- Where marking has ended, a live file of the begin is unmarked exactly where it was garbage.
   pub exact : (f : ℕ) → IsLive begun f → IsLive now f → (marked f ≡ false) ↔ Garbage begun f
   exact f was live = (λ e. (was, λ r. false≢true (sym e ∙ reached_marked f r live)), λ g. m.only_reached f g)
 

@@ -88,6 +88,8 @@ module _ {begun old new : World} (m : Moves begun old new) where
         omega (arith, i.at_most, a, b, c);
   }
 
+-- ---- units
+
 -- A test without x says of any other file what it said.
 pub but_other : (test : ℕ → Bool) (x f : ℕ) → nat_eq x f ≡ false → but test x f ≡ test f
 but_other test x f e = ap (λ b. test f && not b) e ∙ and-true (test f)

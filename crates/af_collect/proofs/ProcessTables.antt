@@ -41,8 +41,7 @@ install-added w q n f =
     (insert-here w.processes w.next_pid q)
     ∙ ap (λ m. record (add_process w q) { processes = m }) (insert_twice w.processes w.next_pid q (record q { table = map.insert q.table n f }))
 
--- The process q has joined the world w with what it has at the numbers from `low` on and below
--- `from`, and each is counted.
+-- q has joined w with its numbers from `low` on and below `from`, and each is counted.
 pub record Joining (w : World) (q : Process) (low from : ℕ) (k : Tally) : Type 0 where
   pub table : Map ℕ
   pub inside : (n : ℕ) → low ≤ n → n < from → map.get table n ≡ map.get q.table n
@@ -170,8 +169,7 @@ removed-uninstall w p n = ap (λ m. record w { processes = m }) (map.same_map na
   kept None = refl
   kept (Some q) = refl
 
--- From w the process p, which was q, gave up its numbers from `low` on and below `from`, and each is
--- counted no longer.
+-- From w the process p, once q, gave up its numbers from `low` on and below `from`, uncounted.
 pub record Leaving (w : World) (p : ℕ) (q : Process) (low from : ℕ) (k : Tally) : Type 0 where
   pub world : World
   pub rest : remove_process world p ≡ remove_process w p

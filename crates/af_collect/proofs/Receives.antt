@@ -78,6 +78,8 @@ module _ (w : World) (s n : ℕ) (k : Tally) (h : IsExact w k) (some : 0 < n) (s
     pub exact-received : IsExact (with_queue (tabled w p ns m.attached) s rest) (without_refs (Queue m.user) m.attached (counted k ns m.attached))
     exact-received = exact-shed (tabled w p ns m.attached) s m rest from _ (is-socket w s socket) shed exact-tabled
 
+-- ---- the needs of a receive
+
 -- A socket, a process, and its lowest free descriptors (recvmsg(2)).
 abbrev pub Receives : World → ℕ → ℕ → List ℕ → Type 0
 Receives w s pid fds = (is_none (socket_at w s) ≡ false) × IsTrue (finmap.contains_key w.processes pid) × ((k : ℕ) × (fds ≡ lowest_free k (process_at w pid)))

@@ -39,6 +39,8 @@ sheds-taken kind q n some k = record {
   charged = charges-taken kind q n some (have-bytes q k);
 }
 
+-- ---- single recounts
+
 -- A new descriptor is one reference more.
 pub tabled-install : (w : World) (p n g f : ℕ) (q : Process) → map.get w.processes p ≡ Some q → map.get q.table n ≡ None → tabled (install w p n g) f ≡ tabled w f + one f g
 tabled-install w p n g f q at free = omega (arith, refs-install w p n g f q at free)

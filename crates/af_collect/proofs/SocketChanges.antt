@@ -6,12 +6,10 @@ use Rattle.std.specs.List.{Contains, slice_index_or}
 use Rattle.std.specs.FinMap as map
 use Rattle.std.specs.Ordering.{nat_cmp, eq_by_cmp}
 use Rattle.std.proofs.lemmas.List.Elements.{Contains-append_cases, Contains-append_left, Contains-append_right, Contains-push_cases}
-use Rattle.af_base.specs.declared.events.SockType.{SockType}
 use Rattle.af_base.specs.World.{AsSocket, File, IsLive, World, Message, Plain, Socket}
 use Rattle.af_base.specs.Places.{Holds, contents, attached_in, backlog_at, backlog_of, queue_at, queue_of}
 use Rattle.af_base.specs.Reached.{is_socket, Garbage}
 use Rattle.af_base.specs.Changes.{add_file, dequeued, file_with, push_message, pushed, queued, with_queue, with_socket}
-use Rattle.af_base.specs.Steps.{connected_socket}
 use Rattle.af_base.proofs.Lookups.{insert-here, insert-other, same_or_not}
 use Rattle.af_base.proofs.PlaceMoves.{holds-there, there-holds, held-changed, live-changed}
 use Rattle.af_base.proofs.SettledWorlds.{none_in}
@@ -66,13 +64,9 @@ module _ (w : World) (x : File) where
     on : (q f : ℕ) → Holds w q f → Holds (add_file w x) q f
     on q f h = let was = holds-there w q f h in there-holds (add_file w x) q f was.0 (lower_same q (numbered q (ap is_some was.1)) ∙ was.1) was.2
 
-module _ (begun w : World) (kind : SockType) where
-  -- The world with the first socket of a pair.
-  abbrev first_of : World
-  first_of = add_file w (AsSocket (connected_socket kind (w.next_ino + 1)))
+-- ---- a changed socket
 
--- An element common to two lists is common to two others, or else a fact holds, if so for each of
--- them.
+-- An element common to two lists is common to two others, or a fact holds, if so for each.
 pairwise : {A : Type 0} (xs ys us vs : List ℕ) (f : ℕ) → (Contains xs f → Contains us f ⊎ A) → (Contains ys f → Contains vs f ⊎ A) → Contains (xs ++ ys) f → Contains (us ++ vs) f ⊎ A
 pairwise xs ys us vs f left right h = elim (Contains-append_cases xs ys f h) [
   | inl y ↦ elim (left y) [ inl z ↦ inl (Contains-append_left us vs f z) | inr z ↦ inr z ]
@@ -123,8 +117,7 @@ module _ (w : World) (s : ℕ) (g : Socket → Socket) where
     tables_gain = λ f t. inl t;
   }
 
-  -- A change of a socket, if each file that leaves it is no garbage, and is marked, if it is of the
-  -- begin.
+  -- A change of a socket, if each file that leaves it is no garbage, and marked if of the begin.
   pub covers_sock : (begun : World) (marked visited : ℕ → Bool)
       → ((x : Socket) (f : ℕ) → map.get w.files s ≡ Some (AsSocket x) → Contains (contents (AsSocket x)) f → Contains (contents (AsSocket (g x))) f ⊎ ((IsLive begun f → marked f ≡ true) × (¬ (Garbage begun f)))) → Covers begun w (with_socket w s g) marked visited
   covers_sock begun marked visited lose = record {
@@ -180,8 +173,7 @@ module _ (begun w : World) (s : ℕ) where
   moves_queue rest fewer = moves_sock w s (λ x. record x { queue = rest }) begun (λ x f at h.
       pairwise (attached_in rest) x.backlog (attached_in x.queue) x.backlog f (λ y. inl (subst (λ o. Contains (attached_in (option_map_or queue_of o [])) f) at (fewer f y))) (λ y. inl y) h)
 
-  -- Another queue in place of one, where what is taken is no garbage, and is marked, if it is of
-  -- the begin.
+  -- Another queue in place of one, if what is taken is no garbage, and marked if of the begin.
   pub covers_queue : (rest : List Message) (taken : List ℕ) (marked visited : ℕ → Bool)
       → ((f : ℕ) → Contains (attached_in (queue_at w s)) f → Contains (attached_in rest) f ⊎ Contains taken f) → ((f : ℕ) → Contains taken f → (IsLive begun f → marked f ≡ true) × (¬ (Garbage begun f))) → Covers begun w (with_queue w s rest) marked visited
   covers_queue rest taken marked visited parts was = covers_sock w s (λ x. record x { queue = rest }) begun marked visited (λ x f at h.
@@ -191,8 +183,7 @@ module _ (begun w : World) (s : ℕ) where
   pub moves_left : (rest : List Message) (taken : List ℕ) → taken ++ attached_in rest ≡ attached_in (queue_at w s) → Moves begun w (with_queue w s rest)
   moves_left rest taken is = moves_queue rest (λ f h. subst (λ xs. Contains xs f) is (Contains-append_right taken (attached_in rest) f h))
 
-  -- A queue of which these files were taken, which are no garbage, and marked, if they are of the
-  -- begin.
+  -- A queue without these files, which are no garbage, and marked if they are of the begin.
   pub covers_left : (rest : List Message) (taken : List ℕ) (marked visited : ℕ → Bool) → taken ++ attached_in rest ≡ attached_in (queue_at w s) → ((f : ℕ) → Contains taken f → (IsLive begun f → marked f ≡ true) × (¬ (Garbage begun f))) → Covers begun w (with_queue w s rest) marked visited
   covers_left rest taken marked visited is was = covers_queue rest taken marked visited (λ f h. elim (Contains-append_cases taken (attached_in rest) f (subst (λ xs. Contains xs f) (sym is) h)) [ inl y ↦ inr y | inr y ↦ inl y ]) was
 
@@ -219,7 +210,6 @@ module _ (begun w : World) (s : ℕ) where
     pub moves_receive : Moves begun w (with_queue w s (take_from x.kind x.queue max).rest)
     moves_receive = moves_left (take_from x.kind x.queue max).rest (take_from x.kind x.queue max).attached parted
 
-    -- The queue after a receive, if each taken file is no garbage, and is marked, if it is of the
-    -- begin.
+    -- The queue after a receive, if each taken file is no garbage, and marked if of the begin.
     pub covers_receive : (marked visited : ℕ → Bool) → ((f : ℕ) → Contains (take_from x.kind x.queue max).attached f → (IsLive begun f → marked f ≡ true) × (¬ (Garbage begun f))) → Covers begun w (with_queue w s (take_from x.kind x.queue max).rest) marked visited
     covers_receive marked visited was = covers_left (take_from x.kind x.queue max).rest (take_from x.kind x.queue max).attached marked visited parted was

@@ -47,8 +47,7 @@ is-socket w s = by (map.get w.files s) refl where
 known-sender : (w : World) (u : ℕ) (k : Tally) → IsOfProcess w u → Agrees w k → IsTrue (is_user u k.users)
 known-sender w u k sender agrees = subst (λ v. IsTrue (is_user v k.users)) (sym sender.2) (agrees.known sender.0 _ sender.1)
 
--- For a message that may be put: what contracts say of the world that is shown (v) holds of the
--- equal one that the store has (w).
+-- A message that may be put: what contracts say of the shown world (v) holds of its equal (w).
 module _ (w v : World) (same : w ≡ v) (k : Tally) (m : Message) (h : IsExact w k) (user : IsOfProcess v m.user) (flying : total v + length m.attached ≤ MAX_INFLIGHT) (live : (f : ℕ) → Contains m.attached f → IsLive v f) where
   -- With it at most the limit is in flight.
   flies : total w + length m.attached ≤ MAX_INFLIGHT
@@ -72,6 +71,8 @@ module _ (w v : World) (same : w ≡ v) (k : Tally) (m : Message) (h : IsExact w
       let at = is-socket w s (subst (λ x. is_none (socket_at x s) ≡ false) (sym same) socket) in
       let room = subst (λ o. length (option_map_or queue_of o []) < MAX_MESSAGES) at (subst (λ x. length (queue_at x s) < MAX_MESSAGES) (sym same) few) in
       exact-push w s m (unwrap_or (socket_at w s) no_socket) k at sends lives fits room flies h
+
+-- ---- sockets that are made, named and connected
 
 -- A socket more that was never connected, which waits.
 pub exact-idle : (w : World) (kind : SockType) (k : Tally) → is_full w 1 ≡ false → IsExact w k

@@ -112,8 +112,7 @@ module _ {w begun : World} {m : MarksView} {c : PassProgress} where
         kept_tables (install_all w p (zip ns t.attached)) (ap (λ (y : World). y.files) filled) (ap (λ (y : World). y.next_ino) filled)
         (λ e. moves_install_files begun w p ns t.attached (λ f h. none f h e)) (λ e. covers_install_lowest begun w p ns t.attached (is_marked m) (below c.visited) there lowest) k
 
-    -- A receive from a spared socket, whose files are shaded while marking and installed at the
-    -- lowest free descriptors, keeps the invariant.
+    -- A receive from a spared socket, its files shaded while marking, keeps the invariant.
     pub kept_taken : (n p : ℕ) (ns : List ℕ) → NotBegunGarbage (pass_of c.stage begun n) s → IsTrue (map.contains_key w.processes p) → (k : ℕ) × (ns ≡ lowest_free k (process_at w p)) → PassInvariant w begun m c
         → PassInvariant (install_all (with_queue w s (taken_at w s max).rest) p (zip ns (taken_at w s max).attached)) begun (shaded_in c.stage (taken_at w s max).attached m) c
     kept_taken n p ns spared there lowest k =
@@ -135,8 +134,9 @@ module _ {w begun : World} {m : MarksView} {c : PassProgress} where
         kept_tables (install_all v p (zip ns t.attached)) (ap (λ (y : World). y.files) filled) (ap (λ (y : World). y.next_ino) filled)
         (λ e. moves_install_files begun v p ns t.attached (λ f h. none f h e)) (λ e. covers_install_lowest begun v p ns t.attached (is_marked o) (below c.visited) there lowest) left
 
--- These processes, files and charges are exact, and what the collector keeps of its pass is kept
--- with them.
+-- ---- the store
+
+-- These processes, files and charges are exact, and the invariant of the pass holds with them.
 abbrev pub BothInvariants : Collector → Procs → FilesView → LedgerView → Type 0
 BothInvariants p procs files ledger = AreExact procs files ledger × PassInvariant (world_of procs files ledger) p.begun.value.world files.marks p.progress
 

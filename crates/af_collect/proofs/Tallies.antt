@@ -66,8 +66,7 @@ module _ {X : Type 0} where
     up : (k : ℕ) (w : X) → find nat_cmp k es ≡ Some w → find nat_cmp k (e ∷ es) ≡ Some w
     up k w found = later e es k w low found (nat_cmp k e.0) refl
 
-  -- A test that passes the value at x too, which another misses, and agrees with it elsewhere, is
-  -- passed by one more.
+  -- A test that also passes the value at x, and else agrees with another, passes one more.
   pub count_one : (m : Map X) (x : ℕ) (v : X) (p q : ℕ × X → Bool) → map.get m x ≡ Some v → p (x, v) ≡ false → q (x, v) ≡ true
       → ((k : ℕ) (w : X) → map.get m k ≡ Some w → nat_eq x k ≡ false → p (k, w) ≡ q (k, w)) → count_by q (map.entries m) ≡ count_by p (map.entries m) + 1
   count_one m x v p q is miss hit same = one_in x v p q miss hit (map.entries m) (entries_sorted m) (sym (get-entries m x) ∙ is) (λ k w found. same k w (get-entries m k ∙ found))

@@ -1,6 +1,6 @@
 -- The pass that a caller sees, what it counts, and what a slice answers.
 use Rattle.std.proofs.Common.{◌≡◌, ◌+◌, ◌&&◌, ℕ, Bool, true, false, not, refl, ap, ◌∙◌, nat_lt, inr}
-use Rattle.std.specs.Prelude.{Option, Some, None, is_some, if◌then◌else◌, IsTrue}
+use Rattle.std.specs.Prelude.{Option, Some, None, is_some, if◌then◌else◌}
 use Rattle.std.specs.FinMap as map
 use Rattle.std.specs.Option.{option_and_then, option_map_or}
 use Rattle.std.proofs.Math.Bool.{and_comm}
@@ -15,7 +15,7 @@ use Rattle.af_desc.specs.FilesView.{is_unmarked_socket}
 use Rattle.af_collect.specs.declared.progress.Stage.{Stage}
 use Rattle.af_collect.specs.declared.progress.Stage.TheVariants.{Marking, Resting, Sweeping}
 use Rattle.af_collect.specs.declared.progress.PassProgress.{PassProgress}
-use Rattle.af_collect.specs.Keeping.{counted, is_sweeping, pass_of, runs, is_running}
+use Rattle.af_collect.specs.Keeping.{counted, is_sweeping, pass_of, runs}
 use Rattle.af_collect.specs.Purged.{ArePurged}
 
 -- The world at the begin of a pass that runs.
@@ -40,12 +40,6 @@ counted_gone w m c f unmarked known is = ap (λ b. record c { reclaimed = c.recl
 
   same : is_unmarked_socket w.files m f ≡ (option_map_or is_socket (map.get w.files f) false && (nat_lt f m.bound && not (is_marked m f)))
   same = λ i. by (map.get w.files f) i && (nat_lt f m.bound && (known i && not (is_marked m f)))
-
--- The pass that a caller sees, where one runs.
-running : (t : Stage) (begun : World) (spent : ℕ) → IsTrue (is_running t) → pass_of t begun spent ≡ Running begun spent
-running Resting begun spent e = absurd (false≢true e)
-running Marking begun spent e = refl
-running Sweeping begun spent e = refl
 
 -- A slice that ends the pass, where none of the garbage of the begin is live.
 pub slices_done : (begun begun' w v : World) (k k' b pass n : ℕ) → ArePurged begun w v b → ((f : ℕ) → Garbage begun f → ¬ (IsLive v f)) → IsGarbageCount begun n

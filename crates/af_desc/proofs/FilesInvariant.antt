@@ -40,6 +40,8 @@ use Rattle.ordered_slab.proofs.Parts.{part_many}
 use Rattle.ordered_slab.proofs.Values.{gone_few}
 use Rattle.af_listen.specs.NamesView.{NamesView}
 
+-- ---- embryos
+
 -- How many backlogs a file's count has.
 abbrev waits : Count → ℕ
 waits c = c.waiting
@@ -108,6 +110,8 @@ pub embryos-empty : (m : Map Count) (n : ℕ) → m ≡ map.empty → AreEmbryos
 embryos-empty m n is low =
     let none : total_of waits m ≤ map.len m * 0 = total-most waits 0 m (λ k x at. absurd (none_some x (sym (ap (λ o. map.get o k) is ∙ map.get-empty nat_cmp k) ∙ at))) in
     omega (arith, none)
+
+-- ---- unmarked files
 
 module _ (m n : Map Mark) (epoch bound next white : ℕ) (h : AreWhite m epoch bound next white) where
   -- The marks before.
@@ -181,6 +185,8 @@ white-begun m epoch next n is = (omega arith, omega (arith, is, whites-most (rec
 -- No pass runs.
 pub white-none : (m : Map Mark) (epoch next : ℕ) → AreWhite m epoch 0 next 0
 white-none m epoch next = (omega arith, omega (arith, none-bound (record { colors = colors_in epoch m; bound = 0 }) refl))
+
+-- ---- the invariant
 
 -- Neither an unknown file nor one with a place is unreferenced.
 first-place : (p : Place) (o : Option Count) → is_some o ≡ false → nat_eq (places_in (more p uncounted)) 0 ≡ option_map_or (λ c. nat_eq (places_in c) 0) o false
@@ -282,6 +288,8 @@ module _ (epoch bound : ℕ) where
   -- And of one less.
   pub seen-without : (r : TrackedTableView) (next room space f : ℕ) → seen (without_row f room space r) next ≡ without f (seen r next)
   seen-without r next room space f = ap {B = FilesView} (λ cs. record (without f (seen r next)) { marks = record { colors = cs; bound = bound } }) (color_without epoch r.marks _ f refl)
+
+-- ---- visits
 
 module _ (epoch bound : ℕ) (r : TrackedTableView) (f : ℕ) where
   -- The marks that the rows show.

@@ -242,6 +242,8 @@ module _ (p : Place) (old mid : FileTableView) (fs : List ℕ) (space : ℕ) (si
     ];
   }
 
+-- ---- freed files
+
 -- One where it holds.
 abbrev bit : Bool → ℕ
 bit b = cond b 1 0
