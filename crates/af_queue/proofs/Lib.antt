@@ -1,5 +1,4 @@
 pub mod Spans
 pub mod Charges
-pub mod CopiedBytes
 pub mod Chains
-pub mod AttachedFiles
+pub mod CopiedParts

@@ -86,11 +86,6 @@ pub neither : (a b : Bool) → a || b ≡ false → (a ≡ false) × (b ≡ fals
 neither false b e = (refl, e)
 neither true b e = absurd (let no : true ≡ false = e in cc)
 
--- One of two.
-pub either : (a b : Bool) → a || b ≡ true → ¬ (a ≡ true) → b ≡ true
-either true b e n = absurd (n refl)
-either false b e n = e
-
 -- A receive takes of a stream as many bytes as it asks for, but none behind that end.
 stream_cut-is : (n : ℕ) (q : List Message) → stream_cut n q ≡ min n (end q)
 stream_cut-is n [] = omega arith
@@ -129,8 +124,7 @@ files-at n (m ∷ x ∷ q) some have = by (λ more. files-at (n - length m.bytes
       → option_map_or (λ m. m.attached) (message_at (stream_cut n (m ∷ x ∷ q)) (m ∷ x ∷ q)) [] ≡ files_in n (m ∷ x ∷ q)
   by rest true e = ap (λ o. option_map_or (λ m. m.attached) o []) (at-front m (x ∷ q) (stream_cut n (m ∷ x ∷ q)) (omega (arith, stream_cut-front m (x ∷ q) n e))) ∙ sym (files-front m (x ∷ q) n e)
   by rest false e =
-      let no = neither (has_files m) (nat_le n (length m.bytes)) e in
-      let high = leb-false _ _ no.1 in
+      let high = leb-false _ _ (neither (has_files m) (nat_le n (length m.bytes)) e).1 in
       let more : 0 < n - length m.bytes = omega (arith, high) in
       let long = stream_cut-rest m (x ∷ q) n e in
       let on = stream_cut-some (n - length m.bytes) x q more have.1 in
@@ -162,10 +156,9 @@ files-of n (m ∷ q) some have = by (λ more. files-of (n - length m.bytes) q mo
       ∙ sym (no_files m.attached t) ∙ sym (files-front m q n e)
   by rest false t false d =
       let e = ap (λ a. a || nat_le n (length m.bytes)) t ∙ d in
-      let high = leb-false _ _ d in
       (λ i. cond (nat_lt (before-later m q t i) (stream_cut-rest m q n e i)) (option_map_or (λ m. m.attached) (find-later m q t i) []) [])
       ∙ ap (λ b. cond b (first_files q) []) (same (length m.bytes) (before q) (stream_cut (n - length m.bytes) q))
-      ∙ rest (omega (arith, high)) ∙ sym (files-rest m q n e)
+      ∙ rest (omega (arith, leb-false _ _ d)) ∙ sym (files-rest m q n e)
 
 -- The part up to a position, part by part.
 parts : (q : List Message) (n : ℕ) (o : Option Message) → up_to q n o ≡ record { bytes = take (min n (end_of q o)) (joined q); attached = cond (nat_lt (before q) (min n (end_of q o))) (option_map_or (λ m. m.attached) o []) []; trunc = false; rest = cut (min n (end_of q o)) q }

@@ -2,7 +2,7 @@ use Rattle.std.proofs.Common.{◌≤◌, ◌-◌, ◌++◌, drop, length, take, 
 use Rattle.std.proofs.lemmas.List.{length-drop}
 use Rattle.af_base.specs.Places.{attached_in}
 use Rattle.af_queue.specs.declared.queue.TheConstants.{BATCH}
-use Rattle.af_queue.proofs.AttachedFiles.{carried_few, carried_here, carried_later}
+use Rattle.af_queue.proofs.CopiedParts.{carried_few, carried_here, carried_later}
 use Rattle.af_queue.proofs.queue.Queue.attached_from.Goals as goal
 use Rattle.af_queue.proofs.queue.Queue.attached_from.Goals.{then-skip-attached, else-skip-attached}
 

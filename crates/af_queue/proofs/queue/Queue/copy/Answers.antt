@@ -1,6 +1,6 @@
 use Rattle.std.proofs.Common.{rules, ◌≡◌, ◌-◌, ◌++◌, length, take, min, sym, ap, ◌∙◌}
 use Rattle.af_base.specs.Take.{joined}
-use Rattle.af_queue.proofs.CopiedBytes.{copied-more}
+use Rattle.af_queue.proofs.CopiedParts.{copied-more}
 use Rattle.af_queue.proofs.queue.Queue.copy.Goals as goal
 
 pub loop-queue-preserved : goal.loop-queue-preserved
