@@ -149,7 +149,7 @@ module _ (p : Collector) (h : Inside) (was : BothInvariants p h.procs h.files h.
   abbrev begun : World
   begun = p.begun.value.world
 
-  -- It refers to another file from now on.
+  -- The descriptor refers to another file from now on.
   module _ (o : Option ℕ) (is : table_at w pid fd ≡ o) where
     -- The files without the reference of the replaced one.
     abbrev left : FilesView

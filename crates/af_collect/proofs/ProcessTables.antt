@@ -169,7 +169,7 @@ removed-uninstall w p n = ap (λ m. record w { processes = m }) (map.same_map na
   kept None = refl
   kept (Some q) = refl
 
--- From w the process p, once q, gave up its numbers from `low` on and below `from`, uncounted.
+-- The process p of w, which was q, gave up its numbers from `low` on and below `from`.
 pub record Leaving (w : World) (p : ℕ) (q : Process) (low from : ℕ) (k : Tally) : Type 0 where
   pub world : World
   pub rest : remove_process world p ≡ remove_process w p

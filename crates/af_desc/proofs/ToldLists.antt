@@ -401,18 +401,18 @@ module _ (a : Inside) (h : contract.the_invariant a) where
       tracks-alike new a.changed.items (vec_capacity a.changed) (ap (λ l. l.last) is) (ap (λ l. l.counts) is) (ap (λ l. l.room) is) refl
       (dirty-faces old new a.changed.items (vec_capacity a.changed) since h.0.dirty (ap (λ l. l.dirty) is) (λ q. ap (λ l. face_in l.files q) is ∙ face-still old.files f q g same))
 
-  -- A name is one.
+  -- A name shows in no face.
   pub tracks-bound : {A B : Type 0} (r : Result A B) (new : FileTableView) (f : ℕ) (name : List ℕ) → OnOk r (new ≡ record old { files = change_socket_at (with_name name) old.files f }) → OnErr r (new ≡ old) → Tracks new a.changed.items (vec_capacity a.changed)
   tracks-bound (Ok x) new f name ok err = tracks-unseen new f (with_name name) old.message_room (λ s _. refl) ok
   tracks-bound (Err e) new f name ok err = tracks-still new err
 
-  -- So is an accept where no embryo waits.
+  -- Nor does an accept where no embryo waits.
   pub tracks-nobody : (new : FileTableView) (f : ℕ) → backlog_in old.files f ≡ [] → new ≡ record old { files = change_socket_at dequeued old.files f } → Tracks new a.changed.items (vec_capacity a.changed)
   tracks-nobody new f none is = tracks-unseen new f dequeued old.message_room (λ s at.
       let empty : s.backlog ≡ [] = sym (ap (λ o. option_map_or backlog_of o []) at) ∙ none in
       ap (λ xs. face_of (AsSocket (record s { backlog = drop 1 xs }))) empty ∙ sym (ap (λ xs. face_of (AsSocket (record s { backlog = xs }))) empty)) is
 
-  -- And a receive where no message waits.
+  -- Nor does a receive where no message waits.
   pub tracks-silent : (new : FileTableView) (f : ℕ) (b : Bool) → queue_in old.files f ≡ [] → new ≡ record old { files = change_socket_at popped old.files f; message_room = b } → Tracks new a.changed.items (vec_capacity a.changed)
   tracks-silent new f b none is = tracks-unseen new f popped b (λ s at.
       let empty : s.queue ≡ [] = sym (ap (λ o. option_map_or queue_of o []) at) ∙ none in
