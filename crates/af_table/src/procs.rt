@@ -177,24 +177,25 @@ impl Procs {
         self.processes.reserve(1)
     }
 
-    /// Adds the process under the next pid. There is room for it.
+    /// Adds the process under the next pid. On an error nothing changes.
     #[inline(always)]
     #[tactic(auto, using(crate::proofs::Parts::part_changes))]
-    fn add(&mut self, process: Process) -> Pid
-        requires room { 0 < self.old.room }
-        requires next { self.old.next_pid ≤ MAX_PID }
-        ensures pid { result ≡ self.old.next_pid }
-        ensures next { self.new.next_pid ≡ self.old.next_pid + 1 }
-        ensures processes { self.new.processes
-            ≡ map.insert self.old.processes self.old.next_pid process.process }
-        ensures rows { self.new.rows ≡ map.insert self.old.rows self.old.next_pid process.row }
+    fn add(&mut self, process: Process) -> Result<(), AllocError>
+        requires { self.old.next_pid ≤ MAX_PID }
+        ensures next { OnOk result (self.new.next_pid ≡ self.old.next_pid + 1) }
+        ensures processes { OnOk result (self.new.processes
+            ≡ map.insert self.old.processes self.old.next_pid process.process) }
+        ensures rows { OnOk result
+            (self.new.rows ≡ map.insert self.old.rows self.old.next_pid process.row) }
         ensures room { self.old.room ≤ self.new.room + 1 }
+        ensures err { OnErr result (self.new ≡ record self.old { room = self.new.room }) }
+        ensures succeeds { 0 < self.old.room → IsOk result }
     {
         let (pid, index) = (self.next_pid(), self.count());
+        self.processes.insert(pid, process)?;
         self.next_pid += 1;
         self.hints.set(pid, index);
-        self.processes.insert(pid, process).unwrap();
-        pid
+        Ok(())
     }
 
     /// Starts a process, for which there is room. Its table is empty, with no room in it:
@@ -210,8 +211,10 @@ impl Procs {
         ensures rows { self.new.rows ≡ map.insert self.old.rows self.old.next_pid 0 }
         ensures room { self.old.room ≤ self.new.room + 1 }
     {
+        let pid = self.next_pid();
         let process = Process::new(self.alloc, user, limit, privileged);
-        self.add(process)
+        self.add(process).unwrap();
+        pid
     }
 
     /// Starts a process by a fork: of the same user, with the same limit and privilege, and with the
@@ -233,12 +236,13 @@ impl Procs {
         ensures room { self.old.room ≤ self.new.room + 1 }
         ensures err { OnErr result (self.new ≡ record self.old { room = self.new.room }) }
     {
-        self.room_to_spawn()?;
         let row = mem::replace(&mut self.spare_row, Vec::new(self.alloc));
         let index = self.hints.find(&self.processes, pid).unwrap();
         let (_, parent) = self.processes.get_index(index).unwrap();
-        let child = parent.copy(row)?;
-        Ok(self.add(child))
+        let process = parent.copy(row)?;
+        let child = self.next_pid();
+        self.add(process)?;
+        Ok(child)
     }
 
     /// Reserves room to install at every descriptor of the process below its limit, if more than 0
