@@ -1,6 +1,6 @@
 -- The parts of a hash map's entries as maps, and how they change with the hash map.
-use Rattle.std.proofs.Common.{◌≡◌, ℕ, ◌+◌, ◌≤◌, List, [], ◌∷◌, length, refl, sym, ap, subst, ◌∙◌, Bool, true, false, cond, arith}
-use Rattle.std.specs.Prelude.{Option, Some, None, is_some, unwrap_or, nat_eq}
+use Rattle.std.proofs.Common.{◌≡◌, ℕ, ◌+◌, List, [], ◌∷◌, length, refl, sym, ap, ◌∙◌, Bool, true, false, cond, arith}
+use Rattle.std.specs.Prelude.{Option, Some, None, is_some, nat_eq}
 use Rattle.std.specs.Ordering.{nat_cmp, eq_by_cmp}
 use Rattle.std.specs.Cmp.{nat_cmp_total, unsigned_tied, nat_eq_equiv}
 use Rattle.std.specs.List.{IsDistinct, AllByRecursion}
@@ -9,10 +9,8 @@ use Rattle.std.specs.HashMap as hash
 use Rattle.std.specs.HashMap.{HashMap}
 use Rattle.std.specs.FinMap as map
 use Rattle.std.specs.FinMap.{nat_cmp-IsAntisymmetric, get-empty, get-insert, get-remove, len-insert, len-empty, same_map}
-use Rattle.std.specs.Option.{option_map, option_map_or}
-use Rattle.std.proofs.lemmas.Bool.{eqb-true}
-use Rattle.af_base.specs.World.{Map, Process}
-use Rattle.af_base.specs.Changes.{change_at}
+use Rattle.std.specs.Option.{option_map}
+use Rattle.af_base.specs.World.{Map}
 use Rattle.af_base.specs.Listing.{keyed}
 use Rattle.af_table.specs.Slots.{ProcessView}
 use Rattle.af_table.specs.Procs.{processes_of, rows_of}
@@ -73,24 +71,6 @@ module _ {X Y S : Type 0} (f : X → Y) where
       ∙ (λ i. cond (tied k q i) None (sym (part_at f m.entries q) i))
       ∙ sym (get-remove nat_cmp_total (part_of f m.entries) k q))
 
-  -- It commutes with a change.
-  part_changed : (g : Y → Y) (m n : HashMap ℕ X S) (k : ℕ) (x v : X) → Some x ≡ hash.get nat_eq m k → f v ≡ g (f x) → hash.Updates nat_eq m n k (Some v) → part_of f n.entries ≡ change_at g (part_of f m.entries) k
-  part_changed g m n k x v was e h =
-      part_inserted m n k v h ∙ ap (map.insert (part_of f m.entries) k) e
-      ∙ ap (λ o. option_map_or (λ y. map.insert (part_of f m.entries) k (g y)) o (part_of f m.entries)) (ap (option_map f) was ∙ sym (part_at f m.entries k))
-
-  -- It commutes with a change where there is no key.
-  part_unchanged : (g : Y → Y) (m : HashMap ℕ X S) (k : ℕ) → hash.get nat_eq m k ≡ None → part_of f m.entries ≡ change_at g (part_of f m.entries) k
-  part_unchanged g m k was = ap (λ o. option_map_or (λ y. map.insert (part_of f m.entries) k (g y)) o (part_of f m.entries)) (sym (part_at f m.entries k ∙ ap (option_map f) was))
-
-  -- A change of other parts is none of this one.
-  part_kept : (m n : HashMap ℕ X S) (k : ℕ) (x v : X) → Some x ≡ hash.get nat_eq m k → f v ≡ f x → hash.Updates nat_eq m n k (Some v) → part_of f n.entries ≡ part_of f m.entries
-  part_kept m n k x v was e h = same_map nat_cmp_total nat_cmp-IsAntisymmetric _ _ (λ q.
-      part_at f n.entries q ∙ ap (option_map f) (h.0 q) ∙ by q (nat_eq k q) refl ∙ sym (part_at f m.entries q)) where
-        by : (q : ℕ) (b : Bool) → nat_eq k q ≡ b → option_map f (cond b (Some v) (hash.get nat_eq m q)) ≡ option_map f (hash.get nat_eq m q)
-        by q true same = ap Some e ∙ ap (option_map f) (was ∙ ap (hash.get nat_eq m) (eqb-true k q same))
-        by q false apart = refl
-
 module _ {S : Type 0} where
   -- The value at each pid.
   pub process_at_key : (m : HashMap ℕ ProcessView S) (q : ℕ) → map.get (processes_of m.entries) q ≡ option_map (λ h. h.process) (hash.get nat_eq m q)
@@ -145,40 +125,6 @@ module _ {S : Type 0} where
   pub rows_absent : (m : HashMap ℕ ProcessView S) (k : ℕ) → hash.get nat_eq m k ≡ None → rows_of m.entries ≡ map.remove (rows_of m.entries) k
   rows_absent m k was = sym (remove-none (rows_of m.entries) k (rows_none m k was))
 
-  -- An entry whose process is changed changes the process at its pid.
-  pub processes_changed : (g : Process → Process) (m n : HashMap ℕ ProcessView S) (k : ℕ) (x v : ProcessView) → Some x ≡ hash.get nat_eq m k → v ≡ record x { process = g x.process } → hash.Updates nat_eq m n k (Some v)
-      → processes_of n.entries ≡ change_at g (processes_of m.entries) k
-  unfolding processes_of
-  processes_changed g m n k x v was e h = part_changed (λ h. h.process) g m n k x v was (ap (λ y. y.process) e) h
-
-  -- An entry that keeps its row changes no row.
-  pub rows_kept : (m n : HashMap ℕ ProcessView S) (k : ℕ) (x v : ProcessView) → Some x ≡ hash.get nat_eq m k → v.row ≡ x.row → hash.Updates nat_eq m n k (Some v) → rows_of n.entries ≡ rows_of m.entries
-  unfolding rows_of
-  rows_kept m n k x v was e h = part_kept (λ h. h.row) m n k x v was e h
-
-  -- A change at an unknown pid changes no process.
-  pub processes_unchanged : (g : Process → Process) (m : HashMap ℕ ProcessView S) (k : ℕ) → hash.get nat_eq m k ≡ None → processes_of m.entries ≡ change_at g (processes_of m.entries) k
-  unfolding processes_of
-  processes_unchanged g m k was = part_unchanged (λ h. h.process) g m k was
-
-  -- An entry that keeps its process changes no process.
-  pub processes_kept : (m n : HashMap ℕ ProcessView S) (k : ℕ) (x v : ProcessView) → Some x ≡ hash.get nat_eq m k → v.process ≡ x.process → hash.Updates nat_eq m n k (Some v) → processes_of n.entries ≡ processes_of m.entries
-  unfolding processes_of
-  processes_kept m n k x v was e h = part_kept (λ h. h.process) m n k x v was e h
-
-  -- The row of a process that was made longer.
-  pub row_made : (m n : HashMap ℕ ProcessView S) (k : ℕ) (v : ProcessView) → hash.Updates nat_eq m n k (Some v) → map.get (rows_of n.entries) k ≡ Some v.row
-  row_made m n k v h = rows_there n k v (sym h.1)
-
-  -- No row gets shorter.
-  pub rows_grown : (m n : HashMap ℕ ProcessView S) (k : ℕ) (x v : ProcessView) → Some x ≡ hash.get nat_eq m k → x.row ≤ v.row → hash.Updates nat_eq m n k (Some v)
-      → (q : ℕ) → unwrap_or (map.get (rows_of m.entries) q) 0 ≤ unwrap_or (map.get (rows_of n.entries) q) 0
-  unfolding rows_of
-  rows_grown m n k x v was le h q = subst (λ o. unwrap_or (map.get (part_of (λ y. y.row) m.entries) q) 0 ≤ unwrap_or o 0) (sym (part_at (λ h. h.row) n.entries q ∙ ap (option_map (λ h. h.row)) (h.0 q))) (by (nat_eq k q) refl) where
-    by : (b : Bool) → nat_eq k q ≡ b → unwrap_or (map.get (part_of (λ y. y.row) m.entries) q) 0 ≤ unwrap_or (option_map (λ y. y.row) (cond b (Some v) (hash.get nat_eq m q))) 0
-    by true same = subst (λ o. unwrap_or o 0 ≤ v.row) (sym (part_at (λ h. h.row) m.entries q ∙ ap (option_map (λ h. h.row)) (ap (hash.get nat_eq m) (sym (eqb-true k q same)) ∙ sym was))) le
-    by false apart = subst (λ o. unwrap_or o 0 ≤ unwrap_or (option_map (λ y. y.row) (hash.get nat_eq m q)) 0) (sym (part_at (λ y. y.row) m.entries q)) (omega arith)
-
   -- As many processes as entries.
   pub process_count : (m : HashMap ℕ ProcessView S) → hash.IsUnique nat_eq m → map.len (processes_of m.entries) ≡ hash.hash_map_len m
   unfolding processes_of
@@ -194,9 +140,6 @@ pub no_rows : (es : List (ℕ × ProcessView)) → es ≡ [] → rows_of es ≡ 
 unfolding rows_of
 no_rows es e = ap (part_of (λ h. h.row)) e
 
-pub ruleset part_changes = (processes_there, rows_there, processes_none, rows_none, processes_inserted, rows_inserted, processes_removed, rows_removed, processes_changed, processes_unchanged, no_processes, no_rows)
-
--- The effect of more room on them.
-pub ruleset room_changes = (processes_there, processes_none, rows_there, rows_none, row_made)
+pub ruleset part_changes = (processes_there, rows_there, processes_none, rows_none, processes_inserted, rows_inserted, processes_removed, rows_removed, no_processes, no_rows)
 
 pub ruleset part_len = (process_count)

@@ -1,6 +1,6 @@
 -- The process at an index of the hash map, and what a write there does.
-use Rattle.std.proofs.Common.{◌≡◌, ℕ, suc, ◌+◌, ◌<◌, ◌≤◌, List, [], ◌∷◌, length, refl, sym, ap, subst, ◌∙◌, Bool, true, false, cond, arith, rules}
-use Rattle.std.specs.Prelude.{Option, Some, None, IfSome, unwrap_or, not, nat_eq, nat_lt, slice_get, position}
+use Rattle.std.proofs.Common.{◌≡◌, ℕ, suc, ◌+◌, ◌<◌, List, [], ◌∷◌, length, refl, sym, ap, subst, ◌∙◌, Bool, true, false, cond, arith, rules}
+use Rattle.std.specs.Prelude.{Option, Some, None, IfSome, not, nat_eq, nat_lt, slice_get, position}
 use Rattle.std.specs.List.{position_or_len}
 use Rattle.std.specs.Option.{IsSome, option_map}
 use Rattle.std.specs.Map.{keys_of}
@@ -13,12 +13,10 @@ use Rattle.std.proofs.lemmas.Option.{slice_get-map}
 use Rattle.std.proofs.lemmas.Map.Entries.{hash_map_get_place}
 use Rattle.indexmap.specs.IndexMap.{with_value_at}
 use Rattle.indexmap.proofs.CallerLemmas.{updates-with_value_at}
-use Rattle.af_base.specs.World.{Process}
 use Rattle.af_base.proofs.Lookups.{none_some}
-use Rattle.af_base.specs.Changes.{change_at}
 use Rattle.af_table.specs.Slots.{ProcessView}
 use Rattle.af_table.specs.Procs.{processes_of, rows_of}
-use Rattle.af_table.proofs.Parts.{processes_there, rows_there, processes_inserted, rows_inserted, processes_changed, processes_kept, rows_kept, rows_grown, row_made}
+use Rattle.af_table.proofs.Parts.{processes_there, rows_there, processes_inserted, rows_inserted}
 
 -- The first key that is equal to this one is this one.
 first_is : (ks : List ℕ) (pid : ℕ) → position_or_len (nat_eq pid) ks < length ks → slice_get ks (position_or_len (nat_eq pid) ks) ≡ Some pid
@@ -80,24 +78,9 @@ module _ {S : Type 0} (m : HashMap ℕ ProcessView S) (index pid key : ℕ) (h :
       written : hash.Updates nat_eq m (with_value_at m index w) pid (Some w)
       written = updates-with_value_at m index w nat_eq_equiv unique pid h entry_there
 
-      pub processes_written : (g : Process → Process) → w ≡ record h { process = g h.process } → processes_of (with_value_at m index w).entries ≡ change_at g (processes_of m.entries) pid
-      processes_written g e = processes_changed g m (with_value_at m index w) pid h w process_there e written
-
       -- It is at the pid then, and the others stay.
       pub processes_put : processes_of (with_value_at m index w).entries ≡ map.insert (processes_of m.entries) pid w.process
       processes_put = processes_inserted m (with_value_at m index w) pid w written
 
       pub rows_put : rows_of (with_value_at m index w).entries ≡ map.insert (rows_of m.entries) pid w.row
       rows_put = rows_inserted m (with_value_at m index w) pid w written
-
-      pub processes_left : w.process ≡ h.process → processes_of (with_value_at m index w).entries ≡ processes_of m.entries
-      processes_left e = processes_kept m (with_value_at m index w) pid h w process_there e written
-
-      pub rows_left : w.row ≡ h.row → rows_of (with_value_at m index w).entries ≡ rows_of m.entries
-      rows_left e = rows_kept m (with_value_at m index w) pid h w process_there e written
-
-      pub row_written : map.get (rows_of (with_value_at m index w).entries) pid ≡ Some w.row
-      row_written = row_made m (with_value_at m index w) pid w written
-
-      pub rows_longer : h.row ≤ w.row → (q : ℕ) → unwrap_or (map.get (rows_of m.entries) q) 0 ≤ unwrap_or (map.get (rows_of (with_value_at m index w).entries) q) 0
-      rows_longer le q = rows_grown m (with_value_at m index w) pid h w process_there le written q

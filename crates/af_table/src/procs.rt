@@ -248,7 +248,7 @@ impl Procs {
     /// Reserves room to install at every descriptor of the process below its limit, if more than 0
     /// are to come; ignores an unknown process. Changes no process, and on an error nothing.
     #[inline(always)]
-    #[tactic(auto, using(crate::proofs::Parts::room_changes))]
+    #[tactic(auto, using(af_base::proofs::Trees::changes))]
     pub fn room_for(&mut self, pid: Pid, count: usize) -> Result<(), AllocError>
         ensures processes { self.new.processes ≡ self.old.processes }
         ensures next { self.new.next_pid ≡ self.old.next_pid }
@@ -266,17 +266,16 @@ impl Procs {
         if count == 0 {
             return Ok(());
         }
-        let Some(index) = self.hints.find(&self.processes, pid) else {
+        let Some(process) = self.find_mut(pid) else {
             return Ok(());
         };
-        let (_, process) = self.processes.pair_mut(index);
         process.make_room()
     }
 
     /// Sets the process's limit on descriptors (setrlimit(2), RLIMIT_NOFILE): free ones are below
     /// it. A lower one closes nothing. Takes no memory.
     #[inline]
-    #[tactic(auto, using(crate::proofs::Parts::part_changes))]
+    #[tactic(auto, using(af_base::proofs::Trees::changes))]
     pub fn set_limit(&mut self, pid: Pid, limit: u32)
         requires { limit ≤ MAX_NOFILE }
         ensures processes { self.new.processes ≡ change_at (limited limit) self.old.processes pid }
@@ -284,17 +283,16 @@ impl Procs {
         ensures next { self.new.next_pid ≡ self.old.next_pid }
         ensures room { self.new.room ≡ self.old.room }
     {
-        let Some(index) = self.hints.find(&self.processes, pid) else {
+        let Some(process) = self.find_mut(pid) else {
             return;
         };
-        let (_, process) = self.processes.pair_mut(index);
         process.set_limit(limit);
     }
 
     /// Sets the process's descriptor, for which there is room, to the file, whether it was open or
     /// free. Takes no memory.
     #[inline(always)]
-    #[tactic(auto, using(crate::proofs::Parts::part_changes))]
+    #[tactic(auto, using(af_base::proofs::Trees::changes))]
     pub fn install(&mut self, pid: Pid, fd: Fd, file: FileRef)
         requires { fd < row_in self.old.rows pid }
         ensures processes { self.new.processes
@@ -303,17 +301,16 @@ impl Procs {
         ensures next { self.new.next_pid ≡ self.old.next_pid }
         ensures room { self.new.room ≡ self.old.room }
     {
-        let Some(index) = self.hints.find(&self.processes, pid) else {
+        let Some(process) = self.find_mut(pid) else {
             return;
         };
-        let (_, process) = self.processes.pair_mut(index);
         process.install(fd, file);
     }
 
     /// Installs the file at a descriptor of the process for which there is room. Returns the file
     /// that it referred to before; `None` if it was free. Takes no memory.
     #[inline(always)]
-    #[tactic(auto, using(crate::proofs::Parts::part_changes))]
+    #[tactic(auto, using(af_base::proofs::Trees::changes))]
     pub fn replace(&mut self, pid: Pid, fd: Fd, file: FileRef) -> Option<FileRef>
         requires { fd < row_in self.old.rows pid }
         ensures value { result ≡ number_in self.old.processes pid fd }
@@ -323,15 +320,13 @@ impl Procs {
         ensures next { self.new.next_pid ≡ self.old.next_pid }
         ensures room { self.new.room ≡ self.old.room }
     {
-        let index = self.hints.find(&self.processes, pid)?;
-        let (_, process) = self.processes.pair_mut(index);
-        process.replace(fd, file)
+        self.find_mut(pid)?.replace(fd, file)
     }
 
     /// Frees the process's descriptor, and returns its file; `None` if it was free already, or the
     /// process is unknown. Takes no memory.
     #[inline(always)]
-    #[tactic(auto, using(crate::proofs::Parts::part_changes))]
+    #[tactic(auto, using(af_base::proofs::Trees::changes))]
     pub fn take_out(&mut self, pid: Pid, fd: Fd) -> Option<FileRef>
         ensures value { result ≡ number_in self.old.processes pid fd }
         ensures processes { self.new.processes ≡ change_at (taken_out fd) self.old.processes pid }
@@ -339,9 +334,7 @@ impl Procs {
         ensures next { self.new.next_pid ≡ self.old.next_pid }
         ensures room { self.new.room ≡ self.old.room }
     {
-        let index = self.hints.find(&self.processes, pid)?;
-        let (_, process) = self.processes.pair_mut(index);
-        process.take_out(fd)
+        self.find_mut(pid)?.take_out(fd)
     }
 
     /// Removes the process, whose pid is never used again. Returns whether it was known. The caller
