@@ -52,14 +52,6 @@ module _ {S : Type 0} (m : HashMap ℕ ProcessView S) (index pid key : ℕ) (h :
   pub pid_there : key ≡ pid
   pid_there = same_some key pid (sym (slice_get-map (λ e. e.0) m.entries index ∙ ap (option_map (λ e. e.0)) at) ∙ there)
 
-  -- So the process of this pid is there.
-  pub process_found : hash.get nat_eq m key ≡ Some h → map.get (processes_of m.entries) pid ≡ Some h.process
-  process_found got = processes_there m pid h (sym got ∙ ap (hash.get nat_eq m) pid_there)
-
-  -- And so is its row.
-  pub row_found : hash.get nat_eq m key ≡ Some h → map.get (rows_of m.entries) pid ≡ Some h.row
-  row_found got = rows_there m pid h (sym got ∙ ap (hash.get nat_eq m) pid_there)
-
   module _ (unique : hash.IsUnique nat_eq m) where
     entry_there : slice_get m.entries index ≡ Some (pid, h)
     entry_there = at ∙ ap (λ k. Some (k, h)) pid_there

@@ -220,7 +220,7 @@ impl Procs {
     /// Starts a process by a fork: of the same user, with the same limit and privilege, and with the
     /// same open descriptors. Returns its pid. Room for further descriptors is not reserved. On an
     /// error no process changes.
-    #[tactic(auto, using(crate::proofs::Parts::part_changes))]
+    #[tactic(auto, using(af_base::proofs::Trees::changes))]
     pub fn copy_for_fork(&mut self, pid: Pid) -> Result<Pid, AllocError>
         requires there { IsTrue (map.contains_key self.old.processes pid) }
         requires next { self.old.next_pid ≤ MAX_PID }
@@ -237,8 +237,7 @@ impl Procs {
         ensures err { OnErr result (self.new ≡ record self.old { room = self.new.room }) }
     {
         let row = mem::replace(&mut self.spare_row, Vec::new(self.alloc));
-        let index = self.hints.find(&self.processes, pid).unwrap();
-        let (_, parent) = self.processes.get_index(index).unwrap();
+        let parent = self.find_mut(pid).unwrap();
         let process = parent.copy(row)?;
         let child = self.next_pid();
         self.add(process)?;
