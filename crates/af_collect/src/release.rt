@@ -16,6 +16,7 @@ use crate::holdings::Holdings;
 use crate::messages::uncharge_message;
 use af_base::ids::FileRef;
 use af_ledger::Place;
+use af_queue::Attached;
 
 impl Holdings {
     /// Removes the first message of a queue, and its places. Returns whether there was one. Takes
@@ -29,7 +30,8 @@ impl Holdings {
         ensures some { IsTrue result → 0 < length (queue_at self.old.world file.now) }
         ensures none { result ≡ false → queue_at self.old.world file.now ≡ [] }
     {
-        let Some((attached, user)) = self.files.pop(file) else {
+        let mut attached = Attached::new(self.alloc);
+        let Some(user) = self.files.pop(file, &mut attached) else {
             return false;
         };
         uncharge_message(&mut self.files, &mut self.ledger, user, attached.as_slice());

@@ -142,13 +142,14 @@ impl FileRow {
         pool::push(nodes, &mut self.chain, message);
     }
 
-    /// Removes the first message from its queue, if there is one. Returns its files, and the user
-    /// who is charged for them. Takes no memory.
+    /// Removes the first message from its queue, if there is one. Moves its files into an empty
+    /// list, and returns the user who is charged for them. Takes no memory.
     #[inline(always)]
-    pub fn pop(&mut self, nodes: &mut Slab<Node>) -> Option<(Attached, Uid)>
+    pub fn pop(&mut self, nodes: &mut Slab<Node>, attached: &mut Attached) -> Option<Uid>
+        requires empty { attached.old.items ≡ [] }
         requires chain { IsChain nodes.old self.old.chain }
-        ensures some { IfSome result (λ first.
-            IsFirst first.0.items first.1 (queue_of (file_in nodes.old self.old))) }
+        ensures some { IfSome result (λ user.
+            IsFirst attached.new.items user (queue_of (file_in nodes.old self.old))) }
         ensures none { IfNone result (queue_of (file_in nodes.old self.old) ≡ []) }
         ensures file { file_in nodes.new self.new ≡ file_with popped (file_in nodes.old self.old) }
         ensures chain { IsChain nodes.new self.new.chain }
@@ -158,8 +159,9 @@ impl FileRow {
         if !self.kind.is_socket() {
             return None;
         }
-        let message = pool::pop(nodes, &mut self.chain)?;
-        Some(message.into_parts())
+        let mut message = pool::pop(nodes, &mut self.chain)?;
+        message.swap_attached(attached);
+        Some(message.user())
     }
 
     /// Takes from its queue what a receive of at most this many bytes gives (recvmsg(2)); nothing

@@ -292,19 +292,20 @@ impl FileTable {
         row.push(&mut self.nodes, message);
     }
 
-    /// Removes the first message from the queue of that socket, if there is one. Returns its files,
-    /// and the user who is charged for them. Takes no memory.
+    /// Removes the first message from the queue of that socket, if there is one. Moves its files
+    /// into an empty list, and returns the user who is charged for them. Takes no memory.
     #[inline(always)]
     #[tactic(auto, using(crate::proofs::TrackedTableView::messages, ordered_slab::proofs::Parts::parts))]
-    pub fn pop_message(&mut self, file: &FileRef) -> Option<(Attached, Uid)>
-        ensures some { IfSome result (λ first.
-            IsFirst first.0.items first.1 (queue_in self.old.files file.now)) }
+    pub fn pop_message(&mut self, file: &FileRef, attached: &mut Attached) -> Option<Uid>
+        requires { attached.old.items ≡ [] }
+        ensures some { IfSome result (λ user.
+            IsFirst attached.new.items user (queue_in self.old.files file.now)) }
         ensures none { IfNone result (queue_in self.old.files file.now ≡ []) }
         ensures rest { self.new
             ≡ with_socket_and_room self.old file.now popped self.new.message_room }
     {
         let row = self.rows.get_mut(file)?;
-        row.pop(&mut self.nodes)
+        row.pop(&mut self.nodes, attached)
     }
 
     /// Takes from the queue of that socket what a receive of at most this many bytes gives

@@ -355,16 +355,17 @@ impl Files {
         self.rows.take(file, self.alloc, max, taken)
     }
 
-    /// Removes the first message from the queue of that socket, if there is one. Returns its files,
-    /// and the user who is charged for them. Takes no memory.
+    /// Removes the first message from the queue of that socket, if there is one. Moves its files
+    /// into an empty list, and returns the user who is charged for them. Takes no memory.
     #[inline(always)]
-    pub fn pop(&mut self, file: &FileRef) -> Option<(Attached, Uid)>
-        ensures some { IfSome result (λ first.
-            IsFirst first.0.items first.1 (queue_in self.old.files file.now)) }
+    pub fn pop(&mut self, file: &FileRef, attached: &mut Attached) -> Option<Uid>
+        requires { attached.old.items ≡ [] }
+        ensures some { IfSome result (λ user.
+            IsFirst attached.new.items user (queue_in self.old.files file.now)) }
         ensures none { IfNone result (queue_in self.old.files file.now ≡ []) }
         ensures rest { self.new ≡ changed_queue popped file.now self.new.message_room self.old }
     {
-        self.rows.pop_message(file)
+        self.rows.pop_message(file, attached)
     }
 
     /// Makes an embryo: a socket that is connected to that client, and the client to it, under the

@@ -321,17 +321,18 @@ impl TrackedTable {
         self.table.push_message(file, message);
     }
 
-    /// Removes the first message from the queue of that socket, if there is one. Returns its files,
-    /// and the user who is charged for them. Takes no memory.
+    /// Removes the first message from the queue of that socket, if there is one. Moves its files
+    /// into an empty list, and returns the user who is charged for them. Takes no memory.
     #[inline(always)]
-    pub fn pop_message(&mut self, file: &FileRef) -> Option<(Attached, Uid)>
-        ensures some { IfSome result (λ first.
-            IsFirst first.0.items first.1 (queue_in self.old.files file.now)) }
+    pub fn pop_message(&mut self, file: &FileRef, attached: &mut Attached) -> Option<Uid>
+        requires { attached.old.items ≡ [] }
+        ensures some { IfSome result (λ user.
+            IsFirst attached.new.items user (queue_in self.old.files file.now)) }
         ensures none { IfNone result (queue_in self.old.files file.now ≡ []) }
         ensures rest { self.new
             ≡ with_socket_and_room self.old file.now popped self.new.message_room }
     {
-        let first = self.table.pop_message(file)?;
+        let first = self.table.pop_message(file, attached)?;
         add_dirty(self.tells_changed, &mut self.table, &mut self.changed, file);
         Some(first)
     }

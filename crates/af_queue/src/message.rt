@@ -112,7 +112,7 @@ impl Msg {
 
     /// Exchanges its attached files for these. Takes no memory.
     #[inline(always)]
-    pub(crate) fn swap_attached(&mut self, files: &mut Attached)
+    pub fn swap_attached(&mut self, files: &mut Attached)
         requires few { small_vec_len files.old ≤ SCM_MAX_FD }
         ensures files { files.new.items ≡ self.old.attached }
         ensures bound { small_vec_len files.new ≤ SCM_MAX_FD }
@@ -139,16 +139,6 @@ impl Msg {
             files.push(file.duplicate())?;
         }
         Ok(files)
-    }
-
-    /// Returns its attached files, and the user who is charged for them. Takes no memory.
-    #[inline(always)]
-    pub fn into_parts(self) -> (Attached, Uid)
-        ensures files { result.0.items ≡ self.attached }
-        ensures bound { small_vec_len result.0 ≤ SCM_MAX_FD }
-        ensures user { result.1 ≡ self.user }
-    {
-        (self.attached, self.user)
     }
 
     /// Copies what a receive of at most this many bytes takes of it as a packet.

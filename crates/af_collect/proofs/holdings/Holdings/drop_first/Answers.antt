@@ -28,28 +28,28 @@ uncharge_message-requires c =
     let w = (the_view h).world in
     let first = c.in-Some.ensures.some in
     let user = c.in-Some.user in
-    let m : Message = record { bytes = first.0; attached = c.in-Some.attached.items; user = user } in
+    let m : Message = record { bytes = first.0; attached = c.pop.new.attached.items; user = user } in
     let x = first-shed w c.args.file.now m (drop 1 (queue_at w c.args.file.now)) c.self.invariant.within first.1 in
     let can = can-drop-all w c.args.file.now m (drop 1 (queue_at w c.args.file.now)) x.0 (kept_of h.files.counts h.ledger) x.1 x.2 c.self.invariant.agrees in
     subst (λ (v : FilesView). CanDropAll user c.as_slice.result.now (kept_of v.counts h.ledger)) (sym c.pop.ensures.rest)
     (subst (λ fs. CanDropAll user fs (kept_of h.files.counts h.ledger)) (sym c.as_slice.ensures) can)
 
 -- The ledger afterwards.
-dropped : (c : goal.Joined-attached) → kept_of c.uncharge_message.new.files.counts c.uncharge_message.new.ledger ≡ without_refs (Queue c.in-Some.user) c.in-Some.attached.items (kept_of c.self.inside.files.counts c.self.inside.ledger)
+dropped : (c : goal.Joined-attached-2) → kept_of c.uncharge_message.new.files.counts c.uncharge_message.new.ledger ≡ without_refs (Queue c.in-Some.user) c.pop.new.attached.items (kept_of c.self.inside.files.counts c.self.inside.ledger)
 dropped c = c.uncharge_message.ensures.kept ∙ (λ i. without_refs (Queue c.in-Some.user) (c.as_slice.ensures i) (kept_of (c.pop.ensures.rest i).counts c.self.inside.ledger))
 
 -- The world afterwards.
-shed : (c : goal.Joined-attached) → (the_view (record c.self.inside { files = c.uncharge_message.new.files; ledger = c.uncharge_message.new.ledger })).world ≡ with_queue (the_view c.self.inside).world c.args.file.now (drop 1 (queue_at (the_view c.self.inside).world c.args.file.now))
+shed : (c : goal.Joined-attached-2) → (the_view (record c.self.inside { files = c.uncharge_message.new.files; ledger = c.uncharge_message.new.ledger })).world ≡ with_queue (the_view c.self.inside).world c.args.file.now (drop 1 (queue_at (the_view c.self.inside).world c.args.file.now))
 shed c =
     let w = (the_view c.self.inside).world in
     let rest = c.uncharge_message.ensures.rest ∙ ap {A = FilesView} {B = FilesView} (λ v. record v { counts = c.uncharge_message.new.files.counts }) c.pop.ensures.rest in
-    world-is _ (with_socket w c.args.file.now popped) refl (ap (λ v. v.files) rest) (ap (λ v. v.next) rest) refl (ap (λ k. keys_of k.users) (dropped c) ∙ users-dropped_all c.in-Some.user c.in-Some.attached.items (kept_of c.self.inside.files.counts c.self.inside.ledger)) ∙ popped_queue w c.args.file.now
+    world-is _ (with_socket w c.args.file.now popped) refl (ap (λ v. v.files) rest) (ap (λ v. v.next) rest) refl (ap (λ k. keys_of k.users) (dropped c) ∙ users-dropped_all c.in-Some.user c.pop.new.attached.items (kept_of c.self.inside.files.counts c.self.inside.ledger)) ∙ popped_queue w c.args.file.now
 
 pub invariant_of-self-2 : goal.invariant_of-self-2
 invariant_of-self-2 c =
     let w = (the_view c.self.inside).world in
     let first = c.in-Some.ensures.some in
-    let m : Message = record { bytes = first.0; attached = c.in-Some.attached.items; user = c.in-Some.user } in
+    let m : Message = record { bytes = first.0; attached = c.pop.new.attached.items; user = c.in-Some.user } in
     let rest = drop 1 (queue_at w c.args.file.now) in
     let x = first-shed w c.args.file.now m rest c.self.invariant.within first.1 in
     exact-same _ _ _ _ (shed c) (dropped c) (exact-shed w c.args.file.now m rest x.0 (kept_of c.self.inside.files.counts c.self.inside.ledger) x.1 x.2 c.self.invariant)

@@ -12,9 +12,9 @@ returns-clause-some c =
     let socket : is_some c.args.self.now.kind ≡ true = sym c.is_socket.ensures ∙ c.if-not-is_socket.false in
     let queue = queue_of_kind old c.args.self.now.kind ∙ ap (λ b. if b then old else []) socket in
     let m = c.in_ok-message.message in
-    let parts = c.into_parts.ensures in
+    let swapped = c.swap_attached.ensures in
     let left = c.in_ok-message.ensures.rest ∙ ap (drop 1) (sym queue) in
-    (m.bytes, queue ∙ c.in_ok-message.ensures.some ∙ (λ i. record { bytes = m.bytes; attached = sym parts.files i; user = sym parts.user i } ∷ left i))
+    (m.bytes, queue ∙ c.in_ok-message.ensures.some ∙ (λ i. record { bytes = m.bytes; attached = sym swapped.files i; user = sym (c.user.ensures ∙ ap (λ x. x.user) swapped.rest) i } ∷ left i))
 
 pub returns-clause-file : goal.returns-clause-file
 returns-clause-file c =

@@ -4,7 +4,7 @@ use Rattle.af_desc.proofs.TrackedTableView.{chains_changed}
 use Rattle.af_desc.proofs.file_table.FileTable.pop_message.Goals as goal
 
 pub pop-requires : goal.pop-requires
-pop-requires c = record { chain = c.self.invariant.each c.args.file.now c.in_ok-row.row.now (sym c.get_mut.ensures.value ∙ ap option_copied_mut c.in_ok-row.was) }
+pop-requires c = record { empty = c.requires; chain = c.self.invariant.each c.args.file.now c.in_ok-row.row.now (sym c.get_mut.ensures.value ∙ ap option_copied_mut c.in_ok-row.was) }
 
 pub invariant_of-self-2 : goal.invariant_of-self-2
 invariant_of-self-2 c =
