@@ -8,8 +8,7 @@ use Rattle.af_base.specs.World.{Map}
 use Rattle.af_base.proofs.Lookups.{insert-here}
 use Rattle.af_ledger.specs.Tally.{Tally, with_ref, with_refs, LedgerView, count_in_map, kept_of}
 use Rattle.af_ledger.specs.declared.place.Place.TheVariants.{Table}
-use Rattle.af_ledger.specs.Counted.{fewer, more, uncounted}
-use Rattle.af_ledger.specs.declared.count.Count.{Count}
+use Rattle.af_ledger.specs.Counted.{CountView, fewer, more, uncounted}
 use Rattle.af_ledger.specs.declared.place.Place.{Place}
 use Rattle.af_desc.specs.FilesView.{FilesView, with_file_ref, with_moved_ref, without_file_ref}
 use Rattle.af_collect.proofs.ProcessTables.{insert_twice}
@@ -31,12 +30,12 @@ charges-filled [] k = refl
 charges-filled (f ∷ fs) k = charges-filled fs (with_ref Table f k)
 
 -- Where the counts alone changed before, and change once more, the counts alone have changed.
-pub counts-alone : (start before after : FilesView) (m : Map Count) → after ≡ record before { counts = m } → before ≡ record start { counts = before.counts } → after ≡ record start { counts = after.counts }
+pub counts-alone : (start before after : FilesView) (m : Map CountView) → after ≡ record before { counts = m } → before ≡ record start { counts = before.counts } → after ≡ record start { counts = after.counts }
 counts-alone start before after m one rest =
     one ∙ ap {A = FilesView} {B = FilesView} (λ v. record v { counts = m }) rest ∙ ap {B = FilesView} (λ x. record start { counts = x }) (sym (ap (λ v. v.counts) one))
 
 -- Once each file has its change, and the ledger that of all, all is as after that change of all.
-pub changed-all : (to : List ℕ → Tally → Tally) (fs : List ℕ) (i : ℕ) (k : Tally) (counts : Map Count) (l n : LedgerView) → length fs ≤ i → counts ≡ (to (take i fs) k).counts → l ≡ n → kept_of (to fs k).counts n ≡ to fs k → kept_of counts l ≡ to fs k
+pub changed-all : (to : List ℕ → Tally → Tally) (fs : List ℕ) (i : ℕ) (k : Tally) (counts : Map CountView) (l n : LedgerView) → length fs ≤ i → counts ≡ (to (take i fs) k).counts → l ≡ n → kept_of (to fs k).counts n ≡ to fs k → kept_of counts l ≡ to fs k
 changed-all to fs i k counts l n past each ledger all =
     ap (λ m. kept_of m l) each ∙ ap (λ gs. kept_of (to gs k).counts l) (take_all i fs past) ∙ ap (kept_of (to fs k).counts) ledger ∙ all
 

@@ -39,9 +39,8 @@ use Rattle.af_base.proofs.SettledPlaces.{settled-counted}
 use Rattle.af_base.proofs.SettledWorlds.{live-without}
 use Rattle.af_base.proofs.Soundness.{fresh_sound}
 use Rattle.af_base.proofs.StaysWhole.{whole-install, whole-left, whole-push, whole-uninstall, whole-unheld}
-use Rattle.af_ledger.specs.Counted.{uncounted, places_in}
+use Rattle.af_ledger.specs.Counted.{CountView, uncounted, places_in}
 use Rattle.af_ledger.specs.Tally.{CanDropAll, Tally, count_in_map, count_of, has_count, is_user, refs_of, with_ref, with_refs, with_user, without_ref, without_refs, is_unreferenced}
-use Rattle.af_ledger.specs.declared.count.Count.{Count}
 use Rattle.af_ledger.specs.declared.place.Place.TheVariants.{Backlog, Queue, Table}
 use Rattle.af_ledger.proofs.ManyPlaces.{charge-dropped_all, charge-held_all, inflight-dropped_all, inflight-held_all, one-itself, same-user, tabled-dropped_all, tabled-held_all, total-dropped_all, total-held_all, users-dropped_all, users-held_all, waiting-dropped_all, waiting-held_all, has-dropped_all, has-held_all}
 use Rattle.af_ledger.proofs.Laws.{charge-added, count-entered, count-struck, inflight-tabled, inflight-unbacklogged, inflight-untabled, tabled-tabled, tabled-unbacklogged, tabled-untabled, waiting-tabled, waiting-unbacklogged, waiting-untabled, has-dropped, has-entered, has-held, has-struck, users-held}
@@ -158,7 +157,7 @@ pub agrees-refs : (w : World) (k : Tally) → Agrees w k → (f : ℕ) → refs_
 agrees-refs w k a f = omega (arith, a.tabled f, a.inflight f, a.waiting f, refs-add_up w f)
 
 -- Other entries with the same numbers for each file.
-agrees-counts : (w : World) (m : Map Count) (k : Tally) → ((f : ℕ) → count_in_map m f ≡ count_of k f) → Agrees w k → Agrees w (record k { counts = m })
+agrees-counts : (w : World) (m : Map CountView) (k : Tally) → ((f : ℕ) → count_in_map m f ≡ count_of k f) → Agrees w k → Agrees w (record k { counts = m })
 agrees-counts w m k same a = record {
   tabled = λ f. ap (λ c. c.tabled) (same f) ∙ a.tabled f;
   inflight = λ f. ap (λ c. c.inflight) (same f) ∙ a.inflight f;
@@ -477,7 +476,7 @@ exact-empty k counts users total = record {
   whole = fresh_sound.whole;
   within = fresh_sound.within;
   agrees = agrees-empty k counts users total;
-  counted = λ f. ap (λ (m : Map Count). is_some (finmap.get m f)) counts ∙ ap is_some (finmap.get-empty nat_cmp f) ∙ sym (ap is_some (finmap.get-empty nat_cmp f));
+  counted = λ f. ap (λ (m : Map CountView). is_some (finmap.get m f)) counts ∙ ap is_some (finmap.get-empty nat_cmp f) ∙ sym (ap is_some (finmap.get-empty nat_cmp f));
 }
 
 -- A user more, as the list of users has it.
@@ -492,7 +491,7 @@ pub waits-unheld : (w : World) (k : Tally) (f : ℕ) → IsExact w k → is_unre
 waits-unheld w k f h waits =
     let told = by (finmap.get k.counts f) waits in
     (sym (h.counted f) ∙ told.0, sym (agrees-refs w k h.agrees f) ∙ told.1) where
-      by : (o : Option Count) → option_map_or (λ c. nat_eq (places_in c) 0) o false ≡ true → (is_some o ≡ true) × (places_in (unwrap_or o uncounted) ≡ 0)
+      by : (o : Option CountView) → option_map_or (λ c. nat_eq (places_in c) 0) o false ≡ true → (is_some o ≡ true) × (places_in (unwrap_or o uncounted) ≡ 0)
       by None e = absurd (false≢true e)
       by (Some c) e = (refl, eqb-true (places_in c) 0 e)
 
@@ -505,7 +504,7 @@ none-waits w k h none = exact-sound w k h (λ f live.
       positive zero e = absurd (false≢true (sym e))
       positive (suc n) e = omega arith
 
-      by : (f : ℕ) (o : Option Count) → is_some o ≡ true → option_map_or (λ c. nat_eq (places_in c) 0) o false ≡ false → 0 < places_in (unwrap_or o uncounted)
+      by : (f : ℕ) (o : Option CountView) → is_some o ≡ true → option_map_or (λ c. nat_eq (places_in c) 0) o false ≡ false → 0 < places_in (unwrap_or o uncounted)
       by f None e d = absurd (false≢true e)
       by f (Some c) e d = positive (places_in c) d
 

@@ -24,9 +24,8 @@ use Rattle.af_base.proofs.Lookups.{insert-here, insert-other, same_or_not, told_
 use Rattle.af_base.proofs.PlaceMoves.{live-changed, others-changed}
 use Rattle.af_base.proofs.BlankFiles.{blank-connected, still-blank}
 use Rattle.af_base.proofs.SoundSteps.{process-there}
-use Rattle.af_ledger.specs.Counted.{more, uncounted}
+use Rattle.af_ledger.specs.Counted.{CountView, more, uncounted}
 use Rattle.af_ledger.specs.Tally.{Tally, count_in_map, kept_of, with_ref, with_refs}
-use Rattle.af_ledger.specs.declared.count.Count.{Count}
 use Rattle.af_ledger.specs.declared.place.Place.{Place}
 use Rattle.af_ledger.specs.declared.place.Place.TheVariants.{Backlog, Table}
 use Rattle.af_desc.specs.FilesView.{FilesView, changed, entered, paired}
@@ -65,17 +64,17 @@ of_two a b f h = elim (Contains-push_cases (a ∷ []) b f h) [
   | inr here ↦ inr (sym here)
 ]
 
-module _ (p : Place) (m : Map Count) (a : ℕ) where
+module _ (p : Place) (m : Map CountView) (a : ℕ) where
   -- A file that is counted with no place, and then with one, is one that is counted with one.
   entered-held : map.insert m a (more p uncounted) ≡ map.insert (map.insert m a uncounted) a (more p (count_in_map (map.insert m a uncounted) a))
   entered-held = sym (insert_twice m a uncounted (more p (count_in_map (map.insert m a uncounted) a)) ∙ ap (λ o. map.insert m a (more p (unwrap_or o uncounted))) (insert-here m a uncounted))
 
   module _ (b : ℕ) (apart : nat_eq a b ≡ false) where
-    abbrev both : Map Count
+    abbrev both : Map CountView
     both = map.insert (map.insert m a uncounted) b uncounted
 
     -- The same of two, whatever these are counted with.
-    put_both : (x : Count) → map.insert (map.insert m a x) b x ≡ map.insert (map.insert both a x) b x
+    put_both : (x : CountView) → map.insert (map.insert m a x) b x ≡ map.insert (map.insert both a x) b x
     put_both x = map.same_map nat_cmp_total nat_cmp-IsAntisymmetric _ _ (λ q. elim (same_or_not q b) [
       | inl e ↦ ap (map.get (map.insert (map.insert m a x) b x)) e ∙ insert-here (map.insert m a x) b x ∙ sym (ap (map.get (map.insert (map.insert both a x) b x)) e ∙ insert-here (map.insert both a x) b x)
       | inr out ↦ insert-other (map.insert m a x) b x q out ∙ elim (same_or_not q a) [
@@ -84,7 +83,7 @@ module _ (p : Place) (m : Map Count) (a : ℕ) where
       ] ∙ sym (insert-other (map.insert both a x) b x q out)
     ])
 
-    abbrev one : Map Count
+    abbrev one : Map CountView
     one = map.insert both a (more p (count_in_map both a))
 
     first : uncounted ≡ count_in_map both a

@@ -14,9 +14,9 @@ use Rattle.af_base.proofs.StaysWhole.{live-taken}
 use Rattle.af_base.specs.declared.limits.TheConstants.{SCM_MAX_FD}
 use Rattle.af_base.specs.Places.{queue_at, queue_of}
 use Rattle.af_base.specs.Take.{take_from}
+use Rattle.af_ledger.specs.Counted.{CountView}
 use Rattle.af_ledger.specs.Tally.{CanDropAll, Tally, with_refs, without_refs, count_in_map, kept_of}
 use Rattle.af_ledger.specs.declared.place.Place.TheVariants.{Queue, Table}
-use Rattle.af_ledger.specs.declared.count.Count.{Count}
 use Rattle.af_desc.specs.FilesView.{received_of, received_from}
 use Rattle.af_collect.specs.Agreement.{IsExact}
 use Rattle.af_collect.specs.Receiving.{taken_at, CanReceive}
@@ -97,7 +97,7 @@ module _ (p : Collector) (h : Inside) (o : StoreView) (opened : the_view h ≡ p
   pub spared-within : NotBegunGarbage (pass_of p.progress.stage p.begun.value.world p.progress.looked) s
   spared-within = subst (λ (t : StoreView). NotBegunGarbage t.pass s) (sym seen) asked.spared
 
-  module _ (exact : AreExact h.procs h.files h.ledger) (counts : Map Count) (same : counts ≡ h.files.counts) (attached : List ℕ) (is : attached ≡ (received_at w s max).attached) where
+  module _ (exact : AreExact h.procs h.files h.ledger) (counts : Map CountView) (same : counts ≡ h.files.counts) (attached : List ℕ) (is : attached ≡ (received_at w s max).attached) where
     -- The received files have counts,
     pub files-known : (f : ℕ) → Contains attached f → IsTrue (finmap.contains_key counts f)
     files-known f among =
@@ -105,7 +105,7 @@ module _ (p : Collector) (h : Inside) (o : StoreView) (opened : the_view h ≡ p
         ∙ received-live w s max (kept_of h.files.counts h.ledger) exact asked.some receives-within.0 f (subst (λ l. Contains l f) is among)
 
     -- which are low enough for all of them.
-    pub files-fit : length attached ≤ SCM_MAX_FD → (f : ℕ) → (count_in_map counts f).tabled + length attached < 2 ^ 31
+    pub files-fit : length attached ≤ SCM_MAX_FD → (f : ℕ) → (count_in_map counts f).tabled + length attached < 2 ^ 21
     files-fit few f = omega (arith, few, ap (λ m. (count_in_map m f).tabled) same, tabled-most w f (kept_of h.files.counts h.ledger) exact.within exact.agrees)
 
 -- To change a queue is to put in place what comes of it.

@@ -32,7 +32,7 @@ pub fn table_in_all(
     requires known { (f : ℕ) → Contains attached.now f
         → IsTrue (map.contains_key files.old.counts f) }
     requires fits { (f : ℕ)
-        → (count_in_map files.old.counts f).tabled + length attached.now < 2 ^ 31 }
+        → (count_in_map files.old.counts f).tabled + length attached.now < 2 ^ 21 }
     ensures processes { procs.new.processes
         ≡ filled procs.old.processes pid (zip fds.now attached.now) }
     ensures rows { procs.new.rows ≡ procs.old.rows }
@@ -67,7 +67,7 @@ pub fn receive_all(
     requires there { IsTrue (map.contains_key procs.old.processes pid) }
     requires row { All (λ n. n < row_in procs.old.rows pid) fds.now }
     requires fits { (f : ℕ)
-        → (count_in_map files.old.counts f).tabled + length attached.now < 2 ^ 31 }
+        → (count_in_map files.old.counts f).tabled + length attached.now < 2 ^ 21 }
     requires queued { CanDropAll user attached.now (kept_of files.old.counts ledger.old) }
     ensures processes { procs.new.processes
         ≡ filled procs.old.processes pid (zip fds.now attached.now) }

@@ -18,9 +18,8 @@ use Rattle.af_base.specs.Changes.{change_socket_at, file_with}
 use Rattle.af_base.proofs.ExactLists.{just-gone, just-same}
 use Rattle.af_base.proofs.StaysWithin.{len-insert_most}
 use Rattle.af_base.proofs.PlacesAndCounts.{count-cons}
-use Rattle.af_ledger.specs.Counted.{IsCounted, fewer, more, uncounted, places_in}
+use Rattle.af_ledger.specs.Counted.{CountView, IsCounted, fewer, more, uncounted, places_in}
 use Rattle.af_ledger.specs.Tally.{count_in_map, AreUnreferenced}
-use Rattle.af_ledger.specs.declared.count.Count.{Count}
 use Rattle.af_ledger.specs.declared.place.Place.{Place}
 use Rattle.af_ledger.specs.declared.place.Place.TheVariants.{Backlog, Queue, Table}
 use Rattle.af_ledger.proofs.Unreferenced.{counted-tabled}
@@ -43,19 +42,19 @@ use Rattle.af_listen.specs.NamesView.{NamesView}
 -- ---- embryos
 
 -- How many backlogs a file's count has.
-abbrev waits : Count → ℕ
+abbrev waits : CountView → ℕ
 waits c = c.waiting
 
-module _ (m : Map Count) (f : ℕ) where
+module _ (m : Map CountView) (f : ℕ) where
   -- The sum over a file's counts is the one that its view shows.
   was : option_map_or waits (map.get m f) 0 ≡ (count_in_map m f).waiting
   was = by (map.get m f) where
-    by : (o : Option Count) → option_map_or waits o 0 ≡ (unwrap_or o uncounted).waiting
+    by : (o : Option CountView) → option_map_or waits o 0 ≡ (unwrap_or o uncounted).waiting
     by None = refl
     by (Some c) = refl
 
   -- With other numbers of a file the places add up to what they did, but for those of this file.
-  changed : (c : Count) → total_of waits (map.insert m f c) + (count_in_map m f).waiting ≡ total_of waits m + c.waiting
+  changed : (c : CountView) → total_of waits (map.insert m f c) + (count_in_map m f).waiting ≡ total_of waits m + c.waiting
   changed c = omega (arith, total-insert waits m f c, was)
 
   -- A file less.
@@ -63,12 +62,12 @@ module _ (m : Map Count) (f : ℕ) where
   embryos-removed n h low =
       let fewer = total-below waits waits (map.remove m f) m (λ k x is. (x, by k x (nat_eq k f) (sym (map.get-remove nat_cmp_total m f k ∙ ap (λ b. cond b None (map.get m k)) (unsigned_tied k f)) ∙ is), omega arith)) in
       omega (arith, h low, fewer) where
-        by : (k : ℕ) (x : Count) (b : Bool) → cond b None (map.get m k) ≡ Some x → map.get m k ≡ Some x
+        by : (k : ℕ) (x : CountView) (b : Bool) → cond b None (map.get m k) ≡ Some x → map.get m k ≡ Some x
         by k x true is = absurd (none_some x is)
         by k x false is = is
 
   -- These places and one more; at most as many of these are in backlogs as the file had.
-  embryos-more : (c : Count) → c.waiting ≤ (count_in_map m f).waiting → (p : Place) (n : ℕ) → AreEmbryos m n → AreEmbryos (map.insert m f (more p c)) (with_embryo p n)
+  embryos-more : (c : CountView) → c.waiting ≤ (count_in_map m f).waiting → (p : Place) (n : ℕ) → AreEmbryos m n → AreEmbryos (map.insert m f (more p c)) (with_embryo p n)
   embryos-more c few Table n h = λ low. let most = h low in omega (arith, most, few, changed (more Table c))
   embryos-more c few (Queue u) n h = λ low. let most = h low in omega (arith, most, few, changed (more (Queue u) c))
   embryos-more c few Backlog n h = by (nat_lt n (2 ^ 64 - 1)) refl where
@@ -81,7 +80,7 @@ module _ (m : Map Count) (f : ℕ) where
   embryos-entered p n k is h = subst (AreEmbryos (map.insert m f (more p uncounted))) (sym is) (embryos-more uncounted (omega arith) p n h)
 
   -- A place less, which there is; as many of these are in backlogs as the file had.
-  embryos-fewer : (c : Count) → c.waiting ≡ (count_in_map m f).waiting → (p : Place) (n : ℕ) → IsCounted p c → AreEmbryos m n → AreEmbryos (map.insert m f (fewer p c)) (without_embryo p n)
+  embryos-fewer : (c : CountView) → c.waiting ≡ (count_in_map m f).waiting → (p : Place) (n : ℕ) → IsCounted p c → AreEmbryos m n → AreEmbryos (map.insert m f (fewer p c)) (without_embryo p n)
   embryos-fewer c same Table n some h = λ low. let most = h low in omega (arith, most, same, changed (fewer Table c))
   embryos-fewer c same (Queue u) n some h = λ low. let most = h low in omega (arith, most, same, changed (fewer (Queue u) c))
   embryos-fewer c same Backlog n some h = by (nat_lt n (2 ^ 64 - 1)) refl where
@@ -90,23 +89,23 @@ module _ (m : Map Count) (f : ℕ) where
     by false e low = let high = ltb-false n (2 ^ 64 - 1) e in absurd (omega (arith, high, low))
 
 -- The number stays right with a place more.
-pub counted-more : (m : Map Count) (f : ℕ) (p : Place) (n k : ℕ) → k ≡ with_embryo p n → AreEmbryos m n → AreEmbryos (map.insert m f (more p (count_in_map m f))) k
+pub counted-more : (m : Map CountView) (f : ℕ) (p : Place) (n k : ℕ) → k ≡ with_embryo p n → AreEmbryos m n → AreEmbryos (map.insert m f (more p (count_in_map m f))) k
 counted-more m f p n k is h = subst (AreEmbryos (map.insert m f (more p (count_in_map m f)))) (sym is) (embryos-more m f (count_in_map m f) (omega arith) p n h)
 
 -- And with a place less.
-pub counted-fewer : (m : Map Count) (f : ℕ) (p : Place) (n k : ℕ) → k ≡ without_embryo p n → IsCounted p (count_in_map m f) → AreEmbryos m n → AreEmbryos (map.insert m f (fewer p (count_in_map m f))) k
+pub counted-fewer : (m : Map CountView) (f : ℕ) (p : Place) (n k : ℕ) → k ≡ without_embryo p n → IsCounted p (count_in_map m f) → AreEmbryos m n → AreEmbryos (map.insert m f (fewer p (count_in_map m f))) k
 counted-fewer m f p n k is c h = subst (AreEmbryos (map.insert m f (fewer p (count_in_map m f)))) (sym is) (embryos-fewer m f (count_in_map m f) refl p n c h)
 
 -- And where a place becomes one in a table.
-pub counted-moved : (m : Map Count) (f : ℕ) (p : Place) (n k : ℕ) → k ≡ without_embryo p n → IsCounted p (count_in_map m f) → AreEmbryos m n → AreEmbryos (map.insert m f (fewer p (more Table (count_in_map m f)))) k
+pub counted-moved : (m : Map CountView) (f : ℕ) (p : Place) (n k : ℕ) → k ≡ without_embryo p n → IsCounted p (count_in_map m f) → AreEmbryos m n → AreEmbryos (map.insert m f (fewer p (more Table (count_in_map m f)))) k
 counted-moved m f p n k is c h = let all = more Table (count_in_map m f) in subst (AreEmbryos (map.insert m f (fewer p all))) (sym is) (embryos-fewer m f all refl p n (counted-tabled p (count_in_map m f) c) h)
 
 -- Where there are none, no file has a place in a backlog.
-pub embryos-none : (m : Map Count) (n : ℕ) → n ≤ 0 → AreEmbryos m n → (f : ℕ) → (count_in_map m f).waiting ≡ 0
+pub embryos-none : (m : Map CountView) (n : ℕ) → n ≤ 0 → AreEmbryos m n → (f : ℕ) → (count_in_map m f).waiting ≡ 0
 embryos-none m n none h f = let most = h (omega (arith, none)) in omega (arith, most, none, changed m f uncounted)
 
 -- There are none among no files.
-pub embryos-empty : (m : Map Count) (n : ℕ) → m ≡ map.empty → AreEmbryos m n
+pub embryos-empty : (m : Map CountView) (n : ℕ) → m ≡ map.empty → AreEmbryos m n
 embryos-empty m n is low =
     let none : total_of waits m ≤ map.len m * 0 = total-most waits 0 m (λ k x at. absurd (none_some x (sym (ap (λ o. map.get o k) is ∙ map.get-empty nat_cmp k) ∙ at))) in
     omega (arith, none)
@@ -189,7 +188,7 @@ white-none m epoch next = (omega arith, omega (arith, none-bound (record { color
 -- ---- the invariant
 
 -- Neither an unknown file nor one with a place is unreferenced.
-first-place : (p : Place) (o : Option Count) → is_some o ≡ false → nat_eq (places_in (more p uncounted)) 0 ≡ option_map_or (λ c. nat_eq (places_in c) 0) o false
+first-place : (p : Place) (o : Option CountView) → is_some o ≡ false → nat_eq (places_in (more p uncounted)) 0 ≡ option_map_or (λ c. nat_eq (places_in c) 0) o false
 first-place Table None e = refl
 first-place (Queue u) None e = refl
 first-place Backlog None e = refl
@@ -236,7 +235,7 @@ module _ {embryos bound white : ℕ} (old new : TrackedTableView) (ws : List ℕ
   socket_either b (Err e) f g same ok err = subst (λ r. FilesInvariant r ws room names next epoch grey most embryos bound white) (sym err) h
 
   -- Other counts of the same files, and the list of the unreferenced ones then.
-  pub filed-counted : (m : Map Count) (vs : List ℕ) (space : ℕ) → new ≡ record old { counts = m } → AreUnreferenced m vs → map.len new.counts ≡ map.len old.counts → room ≤ space → (n : ℕ) → AreEmbryos m n → FilesInvariant new vs space names next epoch grey most n bound white
+  pub filed-counted : (m : Map CountView) (vs : List ℕ) (space : ℕ) → new ≡ record old { counts = m } → AreUnreferenced m vs → map.len new.counts ≡ map.len old.counts → room ≤ space → (n : ℕ) → AreEmbryos m n → FilesInvariant new vs space names next epoch grey most n bound white
   filed-counted m vs space is unreferenced_listed many more n counted =
       let fits = h.fits in
       let few : map.len m ≤ space = omega (arith, fits, many, more, ap (λ r. map.len r.counts) is) in

@@ -21,8 +21,7 @@ use Rattle.af_base.specs.Places.{backlog_in, backlog_of, queue_in, queue_of}
 use Rattle.af_base.proofs.Sums.{total-remove}
 use Rattle.af_base.proofs.Totals.{total-most}
 use Rattle.af_ledger.specs.declared.place.Place.{Place}
-use Rattle.af_ledger.specs.Counted.{more, uncounted}
-use Rattle.af_ledger.specs.declared.count.Count.{Count}
+use Rattle.af_ledger.specs.Counted.{CountView, more, uncounted}
 use Rattle.af_desc.specs.FileTableView.{FileTableView, with_entry, without_entry}
 use Rattle.af_desc.specs.TrackedTableView.{file_of}
 use Rattle.af_desc.specs.Told.{FitsDirty, IsDirtyList, MakesDirty, AreAccounted, AreTold, since_of}
@@ -379,7 +378,7 @@ module _ (a : Inside) (h : contract.the_invariant a) where
   tracks-still new is = subst (λ l. Tracks l a.changed.items (vec_capacity a.changed)) (sym is) h
 
   -- Other counts of a file that is there.
-  pub tracks-counted : (new : FileTableView) (f : ℕ) (c : Count) → new ≡ record old { counts = map.insert old.counts f c } → map.contains_key old.counts f ≡ true → map.len new.counts ≡ map.len old.counts → Tracks new a.changed.items (vec_capacity a.changed)
+  pub tracks-counted : (new : FileTableView) (f : ℕ) (c : CountView) → new ≡ record old { counts = map.insert old.counts f c } → map.contains_key old.counts f ≡ true → map.len new.counts ≡ map.len old.counts → Tracks new a.changed.items (vec_capacity a.changed)
   tracks-counted new f c is known len = (
     record {
       dirty = dirty-faces old new a.changed.items (vec_capacity a.changed) since h.0.dirty (ap (λ l. l.dirty) is) (λ q. ap (λ l. face_in l.files q) is);

@@ -4,8 +4,7 @@ use Rattle.std.specs.Prelude.{ℕ, Bool, false, nat_lt}
 use Rattle.std.specs.FinMap as map
 use Rattle.af_base.specs.World.{File, Map, Socket}
 use Rattle.af_base.specs.Changes.{change_socket_at}
-use Rattle.af_ledger.specs.Counted.{more, uncounted}
-use Rattle.af_ledger.specs.declared.count.Count.{Count}
+use Rattle.af_ledger.specs.Counted.{CountView, more, uncounted}
 use Rattle.af_ledger.specs.declared.place.Place.{Place}
 use Rattle.af_mark.specs.Grey.{unmarked}
 use Rattle.af_mark.specs.declared.mark.Mark.{Mark}
@@ -17,7 +16,7 @@ use Rattle.af_desc.specs.declared.file_row.FileRow.{FileRow}
 -- room, and whether there is room for a message more.
 pub record FileTableView : Type 0 where
   pub files : Map File
-  pub counts : Map Count
+  pub counts : Map CountView
   pub marks : Map Mark
   pub dirty : Map Bool
   pub last : ℕ

@@ -12,9 +12,8 @@ use Rattle.af_base.specs.Counts.{total_of}
 use Rattle.af_base.specs.Refusals.{is_full_of, no_socket, socket_of}
 use Rattle.af_base.specs.Steps.{connected_socket}
 use Rattle.af_base.specs.Take.{take_from}
-use Rattle.af_ledger.specs.Counted.{fewer, more, uncounted}
+use Rattle.af_ledger.specs.Counted.{CountView, fewer, more, uncounted}
 use Rattle.af_ledger.specs.Tally.{AreUnreferenced, count_in_map}
-use Rattle.af_ledger.specs.declared.count.Count.{Count}
 use Rattle.af_ledger.specs.declared.place.Place.{Place}
 use Rattle.af_ledger.specs.declared.place.Place.TheVariants.{Backlog, Queue, Table}
 use Rattle.af_listen.specs.NamesView.{NamesView}
@@ -29,7 +28,7 @@ use Rattle.af_desc.specs.TrackedTableView.{TrackedTableView}
 -- message more.
 pub record FilesView : Type 0 where
   pub files : Map File
-  pub counts : Map Count
+  pub counts : Map CountView
   pub marks : MarksView
   pub since : Since
   pub next : ℕ
@@ -145,7 +144,7 @@ pub record AreNamed (names : NamesView) (files : Map File) : Type 0 where
   pub each : (name : List ℕ) (f : ℕ) → (map.get names name ≡ Some f) ↔ (name_in files f ≡ Some name)
 
 -- No more places are in backlogs than this number, unless it is as large as it can get.
-abbrev pub AreEmbryos : Map Count → ℕ → Type 0
+abbrev pub AreEmbryos : Map CountView → ℕ → Type 0
 AreEmbryos counts n = n < 2 ^ 64 - 1 → total_of (λ c. c.waiting) counts ≤ n
 
 -- The number of embryos with a place of this kind more.

@@ -6,8 +6,7 @@ use Rattle.std.specs.FinMap as map
 use Rattle.slab.specs.Slab.{Slab}
 use Rattle.af_base.specs.World.{AsSocket, File, Map, Message, Plain, Since, Socket}
 use Rattle.af_base.specs.Changes.{change_socket_at}
-use Rattle.af_ledger.specs.Counted.{more, uncounted}
-use Rattle.af_ledger.specs.declared.count.Count.{Count}
+use Rattle.af_ledger.specs.Counted.{CountView, more, uncounted}
 use Rattle.af_ledger.specs.declared.place.Place.{Place}
 use Rattle.af_ledger.specs.Tally.{count_in_map}
 use Rattle.af_mark.specs.Grey.{color_in, unmarked}
@@ -23,7 +22,7 @@ use Rattle.af_desc.specs.declared.file_row.FileRow.{FileRow}
 -- all each list of files has room, and whether there is room for a message more.
 pub record TrackedTableView : Type 0 where
   pub files : Map File
-  pub counts : Map Count
+  pub counts : Map CountView
   pub marks : Map Mark
   pub since : Since
   pub last : ℕ
@@ -84,7 +83,7 @@ abbrev pub files_of : Slab Node → Map FileRow → Map File
 files_of s m = part (file_in s) m
 
 -- The counts of these rows.
-abbrev pub counts_of : Map FileRow → Map Count
+abbrev pub counts_of : Map FileRow → Map CountView
 counts_of m = part (λ r. r.count) m
 
 -- The marks of these rows.
@@ -102,5 +101,5 @@ abbrev pub is_white_in : ℕ → Map Mark → ℕ → Bool
 is_white_in epoch marks f = option_map_or (λ x. not (is_mark (color_in epoch x))) (map.get marks f) false
 
 -- Whether a pass has still to mark the file, and a table holds it.
-abbrev pub is_due : ℕ → Map Count → Map Mark → ℕ → Bool
+abbrev pub is_due : ℕ → Map CountView → Map Mark → ℕ → Bool
 is_due epoch counts marks f = nat_lt 0 (count_in_map counts f).tabled && is_white_in epoch marks f

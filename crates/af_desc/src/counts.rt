@@ -21,7 +21,7 @@ impl Files {
         ensures { result ≡ count_in_map self.now.counts file.now }
     {
         match self.rows.table.count(file) {
-            Some(count) => *count,
+            Some(count) => count.duplicate(),
             None => Count::none(),
         }
     }
@@ -56,21 +56,21 @@ impl Files {
     pub fn tabled(&self, file: &FileRef) -> u64
         ensures { result ≡ (count_in_map self.now.counts file.now).tabled }
     {
-        u64::from(self.count_at(file).tabled)
+        self.count_at(file).tabled()
     }
 
     /// Returns how many places in queues hold a file.
     pub fn inflight(&self, ino: Ino) -> u64
         ensures { result ≡ (count_in_map self.now.counts ino).inflight }
     {
-        u64::from(self.count(ino).inflight)
+        self.count(ino).inflight()
     }
 
     /// Returns how many places in queues hold the file of this reference.
     pub fn inflight_at(&self, file: &FileRef) -> u64
         ensures { result ≡ (count_in_map self.now.counts file.now).inflight }
     {
-        u64::from(self.count_at(file).inflight)
+        self.count_at(file).inflight()
     }
 
     /// Returns whether an embryo may wait to be accepted. If not, none does.

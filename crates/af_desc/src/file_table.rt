@@ -473,7 +473,7 @@ impl FileTable {
         ensures none { IfNone result (self.new ≡ self.old) }
     {
         let row = self.rows.get_mut(file)?;
-        if row.count.tabled == 0 || !matches!(row.mark.color_in(epoch), Color::White) {
+        if row.count.tabled() == 0 || !matches!(row.mark.color_in(epoch), Color::White) {
             return None;
         }
         row.mark = Mark::black(epoch);

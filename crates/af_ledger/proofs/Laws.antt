@@ -13,35 +13,34 @@ use Rattle.std.proofs.lemmas.Map.Made.{is_some-lookup}
 use Rattle.std.proofs.lemmas.List.{map-append}
 use Rattle.af_base.specs.World.{Map}
 use Rattle.af_base.specs.Counts.{one}
-use Rattle.af_ledger.specs.Counted.{uncounted, places_in, more, fewer}
+use Rattle.af_ledger.specs.Counted.{CountView, uncounted, places_in, more, fewer}
 use Rattle.af_ledger.specs.Tally.{Tally, count_in_map, count_of, has_count, refs_of, charge_in, charge_of, recharged, is_user, with_user, with_ref, without_ref}
-use Rattle.af_ledger.specs.declared.count.Count.{Count}
 use Rattle.af_ledger.specs.declared.place.Place.{Place}
 use Rattle.af_ledger.specs.declared.place.Place.TheVariants.{Table, Queue, Backlog}
 
 -- A count that is set is seen at its file, and no other count changes.
-looked : (m : Map Count) (f g : ℕ) (c : Count) → count_in_map (map.insert m f c) g ≡ cond (nat_eq g f) c (count_in_map m g)
+looked : (m : Map CountView) (f g : ℕ) (c : CountView) → count_in_map (map.insert m f c) g ≡ cond (nat_eq g f) c (count_in_map m g)
 looked m f g c = ap (λ o. unwrap_or o uncounted) (get-insert nat_cmp_total m f c g ∙ ap (λ b. cond b (Some c) (map.get m g)) (unsigned_tied g f)) ∙ by (nat_eq g f) where
   by : (b : Bool) → unwrap_or (cond b (Some c) (map.get m g)) uncounted ≡ cond b c (count_in_map m g)
   by true = refl
   by false = refl
 
 -- A number F of f that rises by one, and of the others stays.
-rises : (F : Count → ℕ) (m : Map Count) (f g : ℕ) (c : Count) → F c ≡ F (count_in_map m f) + 1 → F (count_in_map (map.insert m f c) g) ≡ F (count_in_map m g) + one g f
+rises : (F : CountView → ℕ) (m : Map CountView) (f g : ℕ) (c : CountView) → F c ≡ F (count_in_map m f) + 1 → F (count_in_map (map.insert m f c) g) ≡ F (count_in_map m g) + one g f
 rises F m f g c h = ap F (looked m f g c) ∙ by (nat_eq g f) refl where
   by : (b : Bool) → nat_eq g f ≡ b → F (cond b c (count_in_map m g)) ≡ F (count_in_map m g) + cond b 1 0
   by true e = h ∙ ap (λ x. F (count_in_map m x) + 1) (sym (eqb-true g f e))
   by false e = omega arith
 
 -- One that stays for all.
-stays : (F : Count → ℕ) (m : Map Count) (f g : ℕ) (c : Count) → F c ≡ F (count_in_map m f) → F (count_in_map (map.insert m f c) g) ≡ F (count_in_map m g)
+stays : (F : CountView → ℕ) (m : Map CountView) (f g : ℕ) (c : CountView) → F c ≡ F (count_in_map m f) → F (count_in_map (map.insert m f c) g) ≡ F (count_in_map m g)
 stays F m f g c h = ap F (looked m f g c) ∙ by (nat_eq g f) refl where
   by : (b : Bool) → nat_eq g f ≡ b → F (cond b c (count_in_map m g)) ≡ F (count_in_map m g)
   by true e = h ∙ ap (λ x. F (count_in_map m x)) (sym (eqb-true g f e))
   by false e = refl
 
 -- One of f that falls by one, and of the others stays.
-falls : (F : Count → ℕ) (m : Map Count) (f g : ℕ) (c : Count) → F c + 1 ≡ F (count_in_map m f) → F (count_in_map (map.insert m f c) g) + one g f ≡ F (count_in_map m g)
+falls : (F : CountView → ℕ) (m : Map CountView) (f g : ℕ) (c : CountView) → F c + 1 ≡ F (count_in_map m f) → F (count_in_map (map.insert m f c) g) + one g f ≡ F (count_in_map m g)
 falls F m f g c h = ap (λ x. F x + one g f) (looked m f g c) ∙ by (nat_eq g f) refl where
   by : (b : Bool) → nat_eq g f ≡ b → F (cond b c (count_in_map m g)) + cond b 1 0 ≡ F (count_in_map m g)
   by true e = h ∙ ap (λ x. F (count_in_map m x)) (sym (eqb-true g f e))
@@ -204,12 +203,12 @@ charge-added u v k = by (is_user u k.users) where
 -- The numbers of f are kept where there is one.
 pub counted-there : (k : Tally) (f : ℕ) → 0 < refs_of k f → IsTrue (has_count k f)
 counted-there k f = by (map.get k.counts f) where
-  by : (o : Option Count) → 0 < places_in (unwrap_or o uncounted) → is_some o ≡ true
+  by : (o : Option CountView) → 0 < places_in (unwrap_or o uncounted) → is_some o ≡ true
   by (Some c) h = refl
   by None h = absurd (omega arith)
 
 -- A change at f keeps whose numbers are kept, where those of f are.
-has-change : (m : Map Count) (f g : ℕ) (c : Count) → is_some (map.get m f) ≡ true → is_some (map.get (map.insert m f c) g) ≡ is_some (map.get m g)
+has-change : (m : Map CountView) (f g : ℕ) (c : CountView) → is_some (map.get m f) ≡ true → is_some (map.get (map.insert m f c) g) ≡ is_some (map.get m g)
 has-change m f g c there = ap is_some (get-insert nat_cmp_total m f c g ∙ ap (λ b. cond b (Some c) (map.get m g)) (unsigned_tied g f)) ∙ by (nat_eq g f) refl where
   by : (b : Bool) → nat_eq g f ≡ b → is_some (cond b (Some c) (map.get m g)) ≡ is_some (map.get m g)
   by true e = sym (ap (λ x. is_some (map.get m x)) (eqb-true g f e) ∙ there)
@@ -230,7 +229,7 @@ has-dropped Backlog f g k there = has-change k.counts f g _ there
 -- The counts after f is entered: it had none before.
 pub count-entered : (k : Tally) (f g : ℕ) → has_count k f ≡ false → count_of (record k { counts = map.insert k.counts f uncounted }) g ≡ count_of k g
 count-entered k f g new = looked k.counts f g uncounted ∙ by (nat_eq g f) refl where
-  stranger : (o : Option Count) → is_some o ≡ false → unwrap_or o uncounted ≡ uncounted
+  stranger : (o : Option CountView) → is_some o ≡ false → unwrap_or o uncounted ≡ uncounted
   stranger None e = refl
   stranger (Some c) e = absurd (false≢true (sym e))
 
@@ -248,7 +247,7 @@ has-entered k f g = ap is_some (get-insert nat_cmp_total k.counts f uncounted g 
 -- The counts after f, which has no place, is removed.
 pub count-struck : (k : Tally) (f g : ℕ) → refs_of k f ≡ 0 → count_of (record k { counts = map.remove k.counts f }) g ≡ count_of k g
 count-struck k f g none = ap (λ o. unwrap_or o uncounted) (get-remove nat_cmp_total k.counts f g ∙ ap (λ b. cond b None (map.get k.counts g)) (unsigned_tied g f)) ∙ by (nat_eq g f) refl where
-  bare : (c : Count) → places_in c ≡ 0 → uncounted ≡ c
+  bare : (c : CountView) → places_in c ≡ 0 → uncounted ≡ c
   bare c e =
       let table : 0 ≡ c.tabled = omega (arith, e) in
       let queue : 0 ≡ c.inflight = omega (arith, e) in

@@ -6,25 +6,24 @@ use Rattle.std.specs.FinMap as map
 use Rattle.std.specs.FinMap.{get-insert, nat_cmp-IsAntisymmetric, same_map}
 use Rattle.std.proofs.lemmas.Bool.{eqb-true}
 use Rattle.af_base.specs.World.{Map}
-use Rattle.af_ledger.specs.Counted.{fewer, more, uncounted}
+use Rattle.af_ledger.specs.Counted.{CountView, fewer, more, uncounted}
 use Rattle.af_ledger.specs.Tally.{Tally, count_in_map, freed_by, with_ref, with_refs, without_ref, without_refs}
-use Rattle.af_ledger.specs.declared.count.Count.{Count}
 use Rattle.af_ledger.specs.declared.place.Place.TheVariants.{Queue, Table}
 
 -- A changed count is seen at its file, and no other count changes.
-get-changed : (m : Map Count) (f g : ℕ) (a : Count → Count) → map.get (map.insert m f (a (count_in_map m f))) g ≡ cond (nat_eq g f) (Some (a (count_in_map m g))) (map.get m g)
+get-changed : (m : Map CountView) (f g : ℕ) (a : CountView → CountView) → map.get (map.insert m f (a (count_in_map m f))) g ≡ cond (nat_eq g f) (Some (a (count_in_map m g))) (map.get m g)
 get-changed m f g a = get-insert nat_cmp_total m f (a (count_in_map m f)) g ∙ ap (λ b. cond b (Some (a (count_in_map m f))) (map.get m g)) (unsigned_tied g f) ∙ by (nat_eq g f) refl where
   by : (b : Bool) → nat_eq g f ≡ b → cond b (Some (a (count_in_map m f))) (map.get m g) ≡ cond b (Some (a (count_in_map m g))) (map.get m g)
   by true e = ap (λ x. Some (a (count_in_map m x))) (sym (eqb-true g f e))
   by false e = refl
 
 -- Changes of two counts, by functions that commute, give the same in any order.
-changes-swap : (m : Map Count) (f g : ℕ) (a b : Count → Count) → ((c : Count) → b (a c) ≡ a (b c)) → (let n = map.insert m f (a (count_in_map m f)) in map.insert n g (b (count_in_map n g))) ≡ (let n = map.insert m g (b (count_in_map m g)) in map.insert n f (a (count_in_map n f)))
+changes-swap : (m : Map CountView) (f g : ℕ) (a b : CountView → CountView) → ((c : CountView) → b (a c) ≡ a (b c)) → (let n = map.insert m f (a (count_in_map m f)) in map.insert n g (b (count_in_map n g))) ≡ (let n = map.insert m g (b (count_in_map m g)) in map.insert n f (a (count_in_map n f)))
 changes-swap m f g a b swap = same_map nat_cmp_total nat_cmp-IsAntisymmetric _ _ (λ q.
     get-changed (map.insert m f (a (count_in_map m f))) g q b ∙ ap (λ o. cond (nat_eq q g) (Some (b (unwrap_or o uncounted))) o) (get-changed m f q a)
     ∙ by (nat_eq q f) (nat_eq q g) (map.get m q)
     ∙ sym (get-changed (map.insert m g (b (count_in_map m g))) f q a ∙ ap (λ o. cond (nat_eq q f) (Some (a (unwrap_or o uncounted))) o) (get-changed m g q b))) where
-      by : (x y : Bool) (o : Option Count) → (let n = cond x (Some (a (unwrap_or o uncounted))) o in cond y (Some (b (unwrap_or n uncounted))) n) ≡ (let n = cond y (Some (b (unwrap_or o uncounted))) o in cond x (Some (a (unwrap_or n uncounted))) n)
+      by : (x y : Bool) (o : Option CountView) → (let n = cond x (Some (a (unwrap_or o uncounted))) o in cond y (Some (b (unwrap_or n uncounted))) n) ≡ (let n = cond y (Some (b (unwrap_or o uncounted))) o in cond x (Some (a (unwrap_or n uncounted))) n)
       by true true o = ap Some (swap (unwrap_or o uncounted))
       by true false o = refl
       by false true o = refl

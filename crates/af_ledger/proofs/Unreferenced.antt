@@ -8,42 +8,41 @@ use Rattle.af_base.specs.Counts.{count_in, one}
 use Rattle.af_base.specs.World.{Map}
 use Rattle.af_base.proofs.ExactLists.{just-pushed, just-same, just-struck}
 use Rattle.af_base.proofs.Lookups.{not_same, told_apart}
-use Rattle.af_ledger.specs.Counted.{IsCounted, fewer, more, places_in, uncounted}
+use Rattle.af_ledger.specs.Counted.{CountView, IsCounted, fewer, more, places_in, uncounted}
 use Rattle.af_ledger.specs.Tally.{AreUnreferenced, count_in_map, is_unreferenced}
-use Rattle.af_ledger.specs.declared.count.Count.{Count}
 use Rattle.af_ledger.specs.declared.place.Place.{Place}
 use Rattle.af_ledger.specs.declared.place.Place.TheVariants.{Backlog, Queue, Table}
 
 -- A file with a place is not unreferenced.
-pub not-unreferenced : (m : Map Count) (k : ℕ) → nat_eq (places_in (count_in_map m k)) 0 ≡ false → is_unreferenced m k ≡ false
+pub not-unreferenced : (m : Map CountView) (k : ℕ) → nat_eq (places_in (count_in_map m k)) 0 ≡ false → is_unreferenced m k ≡ false
 not-unreferenced m k = by (map.get m k) where
-  by : (o : Option Count) → nat_eq (places_in (unwrap_or o uncounted)) 0 ≡ false → option_map_or (λ c. nat_eq (places_in c) 0) o false ≡ false
+  by : (o : Option CountView) → nat_eq (places_in (unwrap_or o uncounted)) 0 ≡ false → option_map_or (λ c. nat_eq (places_in c) 0) o false ≡ false
   by (Some c) e = e
   by None e = refl
 
 -- A file with one place more has a place.
-more-some : (p : Place) (c : Count) → nat_eq (places_in (more p c)) 0 ≡ false
+more-some : (p : Place) (c : CountView) → nat_eq (places_in (more p c)) 0 ≡ false
 more-some Table c = told_apart (c.tabled + 1 + c.inflight + c.waiting) 0 (λ e. omega (arith, e))
 more-some (Queue u) c = told_apart (c.tabled + (c.inflight + 1) + c.waiting) 0 (λ e. omega (arith, e))
 more-some Backlog c = told_apart (c.tabled + c.inflight + (c.waiting + 1)) 0 (λ e. omega (arith, e))
 
 -- A place less is one fewer.
-fewer-one : (p : Place) (c : Count) → IsCounted p c → places_in (fewer p c) + 1 ≡ places_in c
+fewer-one : (p : Place) (c : CountView) → IsCounted p c → places_in (fewer p c) + 1 ≡ places_in c
 fewer-one Table c h = omega arith
 fewer-one (Queue u) c h = omega arith
 fewer-one Backlog c h = omega arith
 
 -- A place that is there still is with one more in a table.
-pub counted-tabled : (p : Place) (c : Count) → IsCounted p c → IsCounted p (more Table c)
+pub counted-tabled : (p : Place) (c : CountView) → IsCounted p c → IsCounted p (more Table c)
 counted-tabled Table c h = omega arith
 counted-tabled (Queue u) c h = h
 counted-tabled Backlog c h = h
 
-module _ (m n : Map Count) (fs : List ℕ) (k : ℕ) (h : AreUnreferenced m fs) where
+module _ (m n : Map CountView) (fs : List ℕ) (k : ℕ) (h : AreUnreferenced m fs) where
   -- An unknown file that is entered is unreferenced, and there is room for it.
   pub entered-pushed : n ≡ map.insert m k uncounted → map.contains_key m k ≡ false → AreUnreferenced n (fs ++ k ∷ []) × (length fs < map.len n)
   entered-pushed is new = just-pushed (λ c. nat_eq (places_in c) 0) m n fs k h uncounted is refl (by (map.get m k) new) where
-    by : (o : Option Count) → is_some o ≡ false → option_map_or (λ c. nat_eq (places_in c) 0) o false ≡ false
+    by : (o : Option CountView) → is_some o ≡ false → option_map_or (λ c. nat_eq (places_in c) 0) o false ≡ false
     by (Some c) e = absurd (false≢true (sym e))
     by None e = refl
 
@@ -85,13 +84,13 @@ module _ (m n : Map Count) (fs : List ℕ) (k : ℕ) (h : AreUnreferenced m fs) 
         ∙ sym (not-unreferenced m k (told_apart (places_in c) 0 (λ e. omega (arith, e, fewer-one p c counted)))))
 
 -- The counts of a file of the map.
-pub counted-here : (m : Map Count) (f : ℕ) (c : Count) → map.get m f ≡ Some c → count_in_map m f ≡ c
+pub counted-here : (m : Map CountView) (f : ℕ) (c : CountView) → map.get m f ≡ Some c → count_in_map m f ≡ c
 counted-here m f c at = ap (λ o. unwrap_or o uncounted) at
 
 -- A file with a place has counts.
-pub counted-known : (p : Place) (m : Map Count) (f : ℕ) → IsCounted p (count_in_map m f) → IsSome (map.get m f)
+pub counted-known : (p : Place) (m : Map CountView) (f : ℕ) → IsCounted p (count_in_map m f) → IsSome (map.get m f)
 counted-known p m f = by p (map.get m f) where
-  by : (p : Place) (o : Option Count) → IsCounted p (unwrap_or o uncounted) → IsSome o
+  by : (p : Place) (o : Option CountView) → IsCounted p (unwrap_or o uncounted) → IsSome o
   by p (Some c) h = refl
   by Table None h = absurd (omega (arith, h))
   by (Queue u) None h = absurd (omega (arith, h))

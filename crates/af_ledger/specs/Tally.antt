@@ -7,8 +7,7 @@ use Rattle.std.specs.Map.{lookup, keys_of, set_value}
 use Rattle.std.specs.Option.{option_map_or}
 use Rattle.af_base.specs.World.{Map}
 use Rattle.af_base.specs.Counts.{ListsExactly, count_in}
-use Rattle.af_ledger.specs.Counted.{uncounted, places_in, more, fewer, IsCountable, IsCounted}
-use Rattle.af_ledger.specs.declared.count.Count.{Count}
+use Rattle.af_ledger.specs.Counted.{CountView, uncounted, places_in, more, fewer, IsCountable, IsCounted}
 use Rattle.af_ledger.specs.declared.place.Place.{Place}
 use Rattle.af_ledger.specs.declared.place.Place.TheVariants.{Table, Queue, Backlog}
 
@@ -20,20 +19,20 @@ pub record LedgerView : Type 0 where
 
 -- The numbers of each file that is there, and what users are charged.
 pub record Tally : Type 0 where
-  pub counts : Map Count
+  pub counts : Map CountView
   pub users : List (ℕ × ℕ)
   pub total : ℕ
 
 -- The content, if the counts of files and the charges are separate.
-abbrev pub kept_of : Map Count → LedgerView → Tally
+abbrev pub kept_of : Map CountView → LedgerView → Tally
 kept_of counts charged = record { counts = counts; users = charged.users; total = charged.total }
 
 -- The counts of f in this map; all are 0 for an unknown file.
-abbrev pub count_in_map : Map Count → ℕ → Count
+abbrev pub count_in_map : Map CountView → ℕ → CountView
 count_in_map m f = unwrap_or (map.get m f) uncounted
 
 -- The numbers of a file.
-abbrev pub count_of : Tally → ℕ → Count
+abbrev pub count_of : Tally → ℕ → CountView
 count_of k f = count_in_map k.counts f
 
 -- Whether the numbers of f are kept.
@@ -42,11 +41,11 @@ has_count k f = map.contains_key k.counts f
 
 -- Whether f is unreferenced: its counts are kept, and no place holds it (close(2): a description is
 -- freed with its last reference).
-abbrev pub is_unreferenced : Map Count → ℕ → Bool
+abbrev pub is_unreferenced : Map CountView → ℕ → Bool
 is_unreferenced m f = option_map_or (λ c. nat_eq (places_in c) 0) (map.get m f) false
 
 -- The list has each unreferenced file, once, and no other.
-abbrev pub AreUnreferenced : Map Count → List ℕ → Type 0
+abbrev pub AreUnreferenced : Map CountView → List ℕ → Type 0
 AreUnreferenced m fs = ListsExactly (λ c. nat_eq (places_in c) 0) m fs
 
 -- The number of places that hold a file (close(2): a description is freed with its last reference).
@@ -121,7 +120,7 @@ CanHold p f k = IsCountable p (count_of k f) × IsChargeable p k
 -- A place in a queue more of each of these files can be counted, and charged to user u.
 pub record CanHoldAll (u : ℕ) (fs : List ℕ) (k : Tally) : Type 0 where
   pub known : (f : ℕ) → Contains fs f → IsTrue (has_count k f)
-  pub countable : (f : ℕ) → (count_of k f).inflight + length fs < 2 ^ 31
+  pub countable : (f : ℕ) → (count_of k f).inflight + length fs < 2 ^ 21
   pub user : IsTrue (is_user u k.users)
   pub charge : charge_of k u + length fs < 2 ^ 63
   pub total : k.total + length fs < 2 ^ 63

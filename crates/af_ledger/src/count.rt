@@ -1,20 +1,35 @@
 //! The counts of one file.
-ghost use Rattle.std.specs.Prelude.{◌≡◌, ◌+◌, nat_eq};
+ghost use Rattle.std.specs.Prelude.{◌≡◌, ◌+◌, ◌<◌, ◌^◌, nat_eq};
 ghost use Rattle.af_ledger.specs.Counted.{uncounted, more, fewer, places_in, IsCountable};
 ghost use Rattle.af_ledger.specs.Counted.{IsCounted};
 
 use crate::place::Place;
+use std::marker::Model;
 
-/// How many places hold a file: one number for each kind of place. Each kind has far fewer than
-/// 2^31 places at once, so that the numbers are short.
-#[derive(Clone, Copy)]
+/// One place in a queue, as it is counted. Below it descriptors are counted.
+const IN_QUEUE: u64 = 1 << 21;
+
+/// One place in a backlog, as it is counted.
+const IN_BACKLOG: u64 = 1 << 42;
+
+/// How many places hold a file: descriptors, places in queues, and places in backlogs. Each kind has
+/// fewer than 2^21, so one word has all, and one comparison tells that there is none.
+#[derive(Drop)]
 pub struct Count {
-    /// The number of descriptors that refer to it.
-    pub tabled: u32,
-    /// Places in queues that hold it.
-    pub inflight: u32,
-    /// Places in backlogs that hold it: one where it is an embryo.
-    pub waiting: u32,
+    word: u64,
+}
+
+impl Model for Count {
+    ghost use Rattle.std.specs.Prelude.{◌/◌, ◌%◌, ◌^◌};
+    ghost use Rattle.af_ledger.specs.Counted.{CountView};
+
+    ghost Value = { CountView };
+
+    ghost view = { λ a. record {
+      tabled = a.word % 2 ^ 21;
+      inflight = a.word / 2 ^ 21 % 2 ^ 21;
+      waiting = a.word / 2 ^ 42;
+    } };
 }
 
 impl Count {
@@ -23,27 +38,49 @@ impl Count {
     pub fn none() -> Count
         ensures { result ≡ uncounted }
     {
-        Count {
-            tabled: 0,
-            inflight: 0,
-            waiting: 0,
-        }
+        Count { word: 0 }
+    }
+
+    /// Returns a copy of these counts.
+    #[inline(always)]
+    pub fn duplicate(&self) -> Count
+        ensures { result ≡ self.now }
+    {
+        Count { word: self.word }
+    }
+
+    /// Returns the number of descriptors that refer to it.
+    #[inline(always)]
+    pub fn tabled(&self) -> u64
+        ensures value { result ≡ self.now.tabled }
+        ensures few { result < 2 ^ 21 }
+    {
+        self.word % IN_QUEUE
+    }
+
+    /// Returns the number of places in queues that hold it.
+    #[inline(always)]
+    pub fn inflight(&self) -> u64
+        ensures value { result ≡ self.now.inflight }
+        ensures few { result < 2 ^ 21 }
+    {
+        self.word / IN_QUEUE % IN_QUEUE
     }
 
     /// Returns the number of all places.
     #[inline(always)]
-    pub fn places(self) -> u64
-        ensures { result ≡ places_in self }
+    pub fn places(&self) -> u64
+        ensures { result ≡ places_in self.now }
     {
-        u64::from(self.tabled) + u64::from(self.inflight) + u64::from(self.waiting)
+        self.tabled() + self.inflight() + self.word / IN_BACKLOG
     }
 
     /// Returns whether there is no place.
     #[inline(always)]
-    pub fn is_none(self) -> bool
-        ensures { result ≡ nat_eq (places_in self) 0 }
+    pub fn is_none(&self) -> bool
+        ensures { result ≡ nat_eq (places_in self.now) 0 }
     {
-        self.tabled == 0 && self.inflight == 0 && self.waiting == 0
+        self.word == 0
     }
 
     /// Adds one place.
@@ -53,9 +90,9 @@ impl Count {
         ensures { self.new ≡ more place.now self.old }
     {
         match place {
-            Place::Table => self.tabled += 1,
-            Place::Queue(_) => self.inflight += 1,
-            Place::Backlog => self.waiting += 1,
+            Place::Table => self.word += 1,
+            Place::Queue(_) => self.word += IN_QUEUE,
+            Place::Backlog => self.word += IN_BACKLOG,
         }
     }
 
@@ -66,9 +103,9 @@ impl Count {
         ensures { self.new ≡ fewer place.now self.old }
     {
         match place {
-            Place::Table => self.tabled -= 1,
-            Place::Queue(_) => self.inflight -= 1,
-            Place::Backlog => self.waiting -= 1,
+            Place::Table => self.word -= 1,
+            Place::Queue(_) => self.word -= IN_QUEUE,
+            Place::Backlog => self.word -= IN_BACKLOG,
         }
     }
 }

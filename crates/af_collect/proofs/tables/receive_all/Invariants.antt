@@ -21,5 +21,5 @@ invariant-loop-file l =
       room : finmap.get l.fn.procs.rows l.fn.pid ≡ Some l.process.row;
       row : All (λ n. n < l.process.row) ns;
       queued : (f : ℕ) → count_in f fs ≤ (count_in_map l.files.counts f).inflight;
-      fits : (f : ℕ) → (count_in_map l.files.counts f).tabled + length fs < 2 ^ 31;
+      fits : (f : ℕ) → (count_in_map l.files.counts f).tabled + length fs < 2 ^ 21;
     }

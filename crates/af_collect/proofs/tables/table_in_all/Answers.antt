@@ -32,14 +32,14 @@ loop-fd-init c =
       room = room;
       row = subst (λ r. All (λ n. n < r) c.into_iter-fd-iterator.result.a.rest.now) (ap (λ o. unwrap_or o 0) room) (subst (All (λ n. n < row_in p.rows c.args.pid)) (sym fds) c.requires.row);
       known = λ f h. c.requires.known f (subst (λ l. Contains l f) files h);
-      fits = λ f. subst (λ l. (count_in_map c.args.files.now.counts f).tabled + length l < 2 ^ 31) (sym files) (c.requires.fits f);
+      fits = λ f. subst (λ l. (count_in_map c.args.files.now.counts f).tabled + length l < 2 ^ 21) (sym files) (c.requires.fits f);
     }
 
 pub hold-requires-clause-known : goal.hold-requires-clause-known
 hold-requires-clause-known c = c.loop-fd.invariant.known c.in-Some.file.now (subst (λ l. Contains l c.in-Some.file.now) (sym c.in-Some.ensures.steps.1) (Contains-first c.in-Some.file.now c.next.new.self.b.rest.now))
 
 pub hold-requires-clause-countable : goal.hold-requires-clause-countable
-hold-requires-clause-countable c = let fits = c.loop-fd.invariant.fits c.in-Some.file.now in omega (arith, fits)
+hold-requires-clause-countable c = let fits = c.loop-fd.invariant.fits c.in-Some.file.now in omega (arith, fits, ap length c.in-Some.ensures.steps.1)
 
 pub install-requires : goal.install-requires
 install-requires c =

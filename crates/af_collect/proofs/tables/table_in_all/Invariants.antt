@@ -19,5 +19,5 @@ invariant-loop-fd l =
       room : finmap.get l.fn.procs.rows l.fn.pid ≡ Some l.process.row;
       row : All (λ n. n < l.process.row) ns;
       known : (f : ℕ) → Contains fs f → IsTrue (finmap.contains_key l.files.counts f);
-      fits : (f : ℕ) → (count_in_map l.files.counts f).tabled + length fs < 2 ^ 31;
+      fits : (f : ℕ) → (count_in_map l.files.counts f).tabled + length fs < 2 ^ 21;
     }

@@ -3,8 +3,7 @@ use Rattle.std.specs.FinMap as map
 use Rattle.std.specs.Prelude.{is_some}
 use Rattle.std.specs.Ordering.{nat_cmp}
 use Rattle.af_base.proofs.ExactLists.{just-empty}
-use Rattle.af_ledger.specs.Counted.{places_in}
-use Rattle.af_ledger.specs.declared.count.Count.{Count}
+use Rattle.af_ledger.specs.Counted.{CountView, places_in}
 use Rattle.af_mark.specs.Grey.{color_in, colors_in}
 use Rattle.af_mark.specs.MarksView.{is_grey_color}
 use Rattle.af_mark.specs.declared.mark.Mark.{Mark}
@@ -25,7 +24,7 @@ invariant_of-result c =
       begins = ap (λ m. map.contains_key m 0) none ∙ ap is_some (map.get-empty nat_cmp 0);
       named = named-none-yet c.new-4.result c.new.result.files c.new-4.ensures none;
       unreferenced_listed = just-empty (λ n. nat_eq (places_in n) 0) c.new.result.counts _ uncounted c.new-2.ensures.items;
-      fits = omega (arith, ap map.len uncounted ∙ map.len-empty nat_cmp Count);
+      fits = omega (arith, ap map.len uncounted ∙ map.len-empty nat_cmp CountView);
       listed = (
         upto_none 0 m markless,
         just-empty is_grey_color (colors_in 0 m) _ (part_none (color_in 0) m markless) c.new-3.ensures.items,
