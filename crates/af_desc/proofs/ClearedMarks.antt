@@ -5,14 +5,13 @@ use Rattle.std.specs.FinMap as map
 use Rattle.std.proofs.lemmas.Bool.{cases_lt, false≢true}
 use Rattle.af_base.specs.World.{Map}
 use Rattle.af_base.proofs.Lookups.{insert-here, insert-other, not_same, same_or_not, some_same}
-use Rattle.af_mark.specs.Grey.{unmarked}
-use Rattle.af_mark.specs.declared.mark.Mark.{Mark}
+use Rattle.af_mark.specs.Grey.{unmarked, MarkView}
 
 -- The files up to the last, but for a file 0, have a mark of no pass.
-abbrev pub AreWashed : Map Mark → ℕ → Type 0
-AreWashed m last = (f : ℕ) (x : Mark) → f ≤ last → map.get m f ≡ Some x → (f ≡ 0) ⊎ (x.epoch ≤ 0)
+abbrev pub AreWashed : Map MarkView → ℕ → Type 0
+AreWashed m last = (f : ℕ) (x : MarkView) → f ≤ last → map.get m f ≡ Some x → (f ≡ 0) ⊎ (x.epoch ≤ 0)
 
-module _ (m : Map Mark) (n : ℕ) where
+module _ (m : Map MarkView) (n : ℕ) where
   -- The mark of the next file is cleared too.
   pub washed_next : (last : ℕ) → ((q : ℕ) → last < q → q < n → map.contains_key m q ≡ false) → AreWashed m last → AreWashed (map.insert m n unmarked) n
   washed_next last least h f x low at = elim (same_or_not f n) [

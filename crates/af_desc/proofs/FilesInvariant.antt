@@ -23,11 +23,10 @@ use Rattle.af_ledger.specs.Tally.{count_in_map, AreUnreferenced}
 use Rattle.af_ledger.specs.declared.place.Place.{Place}
 use Rattle.af_ledger.specs.declared.place.Place.TheVariants.{Backlog, Queue, Table}
 use Rattle.af_ledger.proofs.Unreferenced.{counted-tabled}
-use Rattle.af_mark.specs.Grey.{color_in, colors_in, unmarked, IsGreyList, black_mark, grey_mark}
+use Rattle.af_mark.specs.Grey.{color_in, colors_in, unmarked, IsGreyList, black_mark, grey_mark, MarkView}
 use Rattle.af_mark.specs.MarksView.{MarksView, is_grey, is_mark, is_white, white_at, white_count, is_grey_color, blackened, is_unmarked, shaded, visited}
 use Rattle.af_mark.specs.declared.color.Color.{Color}
 use Rattle.af_mark.specs.declared.color.Color.TheVariants.{Black, White, Grey}
-use Rattle.af_mark.specs.declared.mark.Mark.{Mark}
 use Rattle.af_mark.proofs.Colors.{color_after, color_get, color_white, color_without, color_known, color_now}
 use Rattle.af_mark.proofs.Whites.{adds-grey, adds-white, none-bound, white-beyond, white-mark, whites-gone, whites-most, whites-put}
 use Rattle.af_mark.proofs.GreyList.{listed-born, listed-gone, listed-same, grey-known, listed-bare, listed-black, listed-grey, white-known}
@@ -112,7 +111,7 @@ embryos-empty m n is low =
 
 -- ---- unmarked files
 
-module _ (m n : Map Mark) (epoch bound next white : ℕ) (h : AreWhite m epoch bound next white) where
+module _ (m n : Map MarkView) (epoch bound next white : ℕ) (h : AreWhite m epoch bound next white) where
   -- The marks before.
   abbrev old : MarksView
   old = record { colors = colors_in epoch m; bound = bound }
@@ -125,11 +124,7 @@ module _ (m n : Map Mark) (epoch bound next white : ℕ) (h : AreWhite m epoch b
       let same = ap (λ cs. white_count (record { colors = cs; bound = bound })) (color_after epoch m n next unmarked White is (color_white epoch unmarked refl)) in
       (omega (arith, low), omega (arith, few, whites-put old next White, white-beyond bound next White low, same))
 
-  -- Other marks of the same colours.
-  pub white-moved : colors_in epoch n ≡ colors_in epoch m → AreWhite n epoch bound next white
-  white-moved is = let few = h.1 in (h.0, omega (arith, few, ap (λ cs. white_count (record { colors = cs; bound = bound })) is))
-
-  module _ (f : ℕ) (x : Mark) (is : n ≡ map.insert m f x) where
+  module _ (f : ℕ) (x : MarkView) (is : n ≡ map.insert m f x) where
     -- A white file is marked: one less is still to be.
     pub white-marked : (c : Color) → is_mark c ≡ true → color_in epoch x ≡ c → is_white old f ≡ true → f < bound → (0 < white) × AreWhite n epoch bound next (white - 1)
     white-marked c marks shows was low =
@@ -154,7 +149,7 @@ module _ (m n : Map Mark) (epoch bound next white : ℕ) (h : AreWhite m epoch b
     adds : Option Color → ℕ
     adds o = option_map_or (λ c. cond (white_at bound f c) 1 0) o 0
 
-    by : (o : Option Mark) → from_bool (nat_lt f bound && option_map_or (λ y. not (is_mark (color_in epoch y))) o false) ≡ adds (option_map (color_in epoch) o)
+    by : (o : Option MarkView) → from_bool (nat_lt f bound && option_map_or (λ y. not (is_mark (color_in epoch y))) o false) ≡ adds (option_map (color_in epoch) o)
     by None = ap from_bool (and-false (nat_lt f bound))
     by (Some y) = bit (white_at bound f (color_in epoch y)) where
       bit : (a : Bool) → from_bool a ≡ cond a 1 0
@@ -171,18 +166,18 @@ module _ (m n : Map Mark) (epoch bound next white : ℕ) (h : AreWhite m epoch b
     gone = ap (λ k. left + k) (many ∙ (λ i. from_bool (nat_lt (same i) bound && is i)) ∙ by (map.get m f) ∙ sym (ap adds (color_get epoch m f))) ∙ whites-gone old f
 
 -- The number of files that a pass has still to mark, by the marks and by their view.
-pub white-seen : (m : Map Mark) (epoch f : ℕ) → is_white_in epoch m f ≡ is_white (record { colors = colors_in epoch m; bound = 0 }) f
+pub white-seen : (m : Map MarkView) (epoch f : ℕ) → is_white_in epoch m f ≡ is_white (record { colors = colors_in epoch m; bound = 0 }) f
 white-seen m epoch f = by (map.get m f) ∙ sym (ap (λ o. is_some o && not (option_map_or is_mark o false)) (color_get epoch m f)) where
-  by : (o : Option Mark) → option_map_or (λ x. not (is_mark (color_in epoch x))) o false ≡ (is_some (option_map (color_in epoch) o) && not (option_map_or is_mark (option_map (color_in epoch) o) false))
+  by : (o : Option MarkView) → option_map_or (λ x. not (is_mark (color_in epoch x))) o false ≡ (is_some (option_map (color_in epoch) o) && not (option_map_or is_mark (option_map (color_in epoch) o) false))
   by None = refl
   by (Some x) = refl
 
 -- A pass begins: at most all files are to be marked.
-pub white-begun : (m : Map Mark) (epoch next n : ℕ) → n ≡ map.len m → AreWhite m epoch next next n
+pub white-begun : (m : Map MarkView) (epoch next n : ℕ) → n ≡ map.len m → AreWhite m epoch next next n
 white-begun m epoch next n is = (omega arith, omega (arith, is, whites-most (record { colors = colors_in epoch m; bound = next }), part_many (color_in epoch) m))
 
 -- No pass runs.
-pub white-none : (m : Map Mark) (epoch next : ℕ) → AreWhite m epoch 0 next 0
+pub white-none : (m : Map MarkView) (epoch next : ℕ) → AreWhite m epoch 0 next 0
 white-none m epoch next = (omega arith, omega (arith, none-bound (record { colors = colors_in epoch m; bound = 0 }) refl))
 
 -- ---- the invariant
@@ -210,12 +205,12 @@ module _ {embryos bound white : ℕ} (old new : TrackedTableView) (ws : List ℕ
   }
 
   -- Other marks of the same files, in another pass.
-  pub filed-renewed : (m : Map Mark) (e b : ℕ) (gs : List ℕ) (wide : ℕ) → new ≡ record old { marks = m } → IsGreyList m e gs wide → most ≤ wide → (n : ℕ) → AreWhite m e b next n → FilesInvariant new ws room names next e gs wide embryos b n
+  pub filed-renewed : (m : Map MarkView) (e b : ℕ) (gs : List ℕ) (wide : ℕ) → new ≡ record old { marks = m } → IsGreyList m e gs wide → most ≤ wide → (n : ℕ) → AreWhite m e b next n → FilesInvariant new ws room names next e gs wide embryos b n
   filed-renewed m e b gs wide is listed wider n whites =
       subst (λ r. FilesInvariant r ws room names next e gs wide embryos b n) (sym is) (record { last = h.last; begins = h.begins; named = h.named; unreferenced_listed = h.unreferenced_listed; fits = h.fits; listed = listed; backlogged = h.backlogged; whites = whites; space = (h.space.0, let least = h.space.1 in omega (arith, least, wider)) })
 
   -- Other marks of the same files, the grey ones then, and how many are still to be marked.
-  pub filed-marked : (m : Map Mark) (gs : List ℕ) (wide : ℕ) → new ≡ record old { marks = m } → IsGreyList m epoch gs wide → most ≤ wide → (n : ℕ) → AreWhite m epoch bound next n → FilesInvariant new ws room names next epoch gs wide embryos bound n
+  pub filed-marked : (m : Map MarkView) (gs : List ℕ) (wide : ℕ) → new ≡ record old { marks = m } → IsGreyList m epoch gs wide → most ≤ wide → (n : ℕ) → AreWhite m epoch bound next n → FilesInvariant new ws room names next epoch gs wide embryos bound n
   filed-marked m gs wide is listed wider n whites = filed-renewed m epoch bound gs wide is listed wider n whites
 
   -- Other files of the same numbers, with the names that are theirs.
@@ -306,7 +301,7 @@ module _ (epoch bound : ℕ) (r : TrackedTableView) (f : ℕ) where
   -- A file's mark says whether it is white.
   pub white-is : is_white now f ≡ is_white_in epoch r.marks f
   white-is = ap (λ o. is_some o && not (option_map_or is_mark o false)) (color_get epoch r.marks f) ∙ by (map.get r.marks f) where
-    by : (o : Option Mark) → (is_some (option_map (color_in epoch) o) && not (option_map_or is_mark (option_map (color_in epoch) o) false)) ≡ option_map_or (λ x. not (is_mark (color_in epoch x))) o false
+    by : (o : Option MarkView) → (is_some (option_map (color_in epoch) o) && not (option_map_or is_mark (option_map (color_in epoch) o) false)) ≡ option_map_or (λ x. not (is_mark (color_in epoch x))) o false
     by None = refl
     by (Some x) = refl
 
@@ -333,10 +328,10 @@ module _ (epoch bound : ℕ) (r : TrackedTableView) (f : ℕ) where
 
   module _ (low : f < bound) where
     -- A white file that is shaded is grey.
-    pub seen-shaded : is_white_in epoch r.marks f ≡ true → (next at : ℕ) → seen epoch bound (record r { marks = map.insert r.marks f (grey_mark epoch at) }) next ≡ record (seen epoch bound r next) { marks = shaded f now }
-    seen-shaded white next at =
+    pub seen-shaded : is_white_in epoch r.marks f ≡ true → (next : ℕ) → seen epoch bound (record r { marks = map.insert r.marks f (grey_mark epoch) }) next ≡ record (seen epoch bound r next) { marks = shaded f now }
+    seen-shaded white next =
         ap {B = FilesView} (λ (m : MarksView). record (seen epoch bound r next) { marks = m })
-        (ap {B = MarksView} (λ cs. record { colors = cs; bound = bound }) (color_after epoch r.marks _ f (grey_mark epoch at) Grey refl (color_now epoch (grey_mark epoch at) refl))
+        (ap {B = MarksView} (λ cs. record { colors = cs; bound = bound }) (color_after epoch r.marks _ f (grey_mark epoch) Grey refl (color_now epoch (grey_mark epoch) refl))
         ∙ sym (λ i. cond (lt-ltb f bound low i && (white-is ∙ white) i) (with_color Grey) now))
 
     -- A file that is due is black when it was visited.
@@ -349,7 +344,7 @@ module _ (epoch bound : ℕ) (r : TrackedTableView) (f : ℕ) where
 
   module _ {names : NamesView} {unreferenced grey : List ℕ} {room next most embryos white : ℕ} (h : FilesInvariant r unreferenced room names next epoch grey most embryos bound white) (was : is_white_in epoch r.marks f ≡ true) (low : f < bound) where
     -- A white file that is marked is one less to be marked.
-    left-white : (x : Mark) (c : Color) → x.epoch ≡ epoch → x.color ≡ c → is_mark c ≡ true → (0 < white) × AreWhite (map.insert r.marks f x) epoch bound next (white - 1)
+    left-white : (x : MarkView) (c : Color) → x.epoch ≡ epoch → x.color ≡ c → is_mark c ≡ true → (0 < white) × AreWhite (map.insert r.marks f x) epoch bound next (white - 1)
     left-white x c this is marks = white-marked r.marks (map.insert r.marks f x) epoch bound next white h.whites f x refl c marks (color_now epoch x this ∙ is) (white-is ∙ was) low
 
     -- So there is at least one.
@@ -365,14 +360,14 @@ module _ (epoch bound : ℕ) (r : TrackedTableView) (f : ℕ) where
           (listed-bare r.marks _ epoch grey most h.listed f (black_mark epoch) refl refl many refl (white-known now f (white-is ∙ was)).1) (omega arith) (white - 1) (left-white (black_mark epoch) Black refl refl refl).1
 
       -- It is grey, and last in the list, which has room for it.
-      pub filed-grey : (at : ℕ) → new ≡ record r { marks = map.insert r.marks f (grey_mark epoch at) }
+      pub filed-grey : new ≡ record r { marks = map.insert r.marks f (grey_mark epoch) }
           → (length grey < most) × ((gs : List ℕ) (wide : ℕ) → gs ≡ grey ++ f ∷ [] → most ≤ wide → FilesInvariant new unreferenced room names next epoch gs wide embryos bound (white - 1))
-      filed-grey at is =
+      filed-grey is =
           let many = sym (ap (λ (r : TrackedTableView). map.len r.marks) is) ∙ len in
-          let listed = listed-grey r.marks _ epoch grey most h.listed f (grey_mark epoch at) refl refl many refl (white-known now f (white-is ∙ was)).1 in (
+          let listed = listed-grey r.marks _ epoch grey most h.listed f (grey_mark epoch) refl refl many refl (white-known now f (white-is ∙ was)).1 in (
             listed.0,
             λ gs wide same more.
-                filed-marked r new _ _ _ _ _ _ _ h _ gs wide is (listed-same (map.insert r.marks f (grey_mark epoch at)) _ epoch (grey ++ f ∷ []) most listed.1 gs wide refl same more) more (white - 1) (left-white (grey_mark epoch at) Grey refl refl refl).1,
+                filed-marked r new _ _ _ _ _ _ _ h _ gs wide is (listed-same (map.insert r.marks f (grey_mark epoch)) _ epoch (grey ++ f ∷ []) most listed.1 gs wide refl same more) more (white - 1) (left-white (grey_mark epoch) Grey refl refl refl).1,
           )
 
   -- The last file of the list is scanned.

@@ -6,8 +6,7 @@ use Rattle.af_base.specs.World.{File, Map, Socket}
 use Rattle.af_base.specs.Changes.{change_socket_at}
 use Rattle.af_ledger.specs.Counted.{CountView, more, uncounted}
 use Rattle.af_ledger.specs.declared.place.Place.{Place}
-use Rattle.af_mark.specs.Grey.{unmarked}
-use Rattle.af_mark.specs.declared.mark.Mark.{Mark}
+use Rattle.af_mark.specs.Grey.{unmarked, MarkView}
 use Rattle.ordered_slab.specs.Parts.{part}
 use Rattle.af_desc.specs.declared.file_row.FileRow.{FileRow}
 
@@ -17,7 +16,7 @@ use Rattle.af_desc.specs.declared.file_row.FileRow.{FileRow}
 pub record FileTableView : Type 0 where
   pub files : Map File
   pub counts : Map CountView
-  pub marks : Map Mark
+  pub marks : Map MarkView
   pub dirty : Map Bool
   pub last : ℕ
   pub room : ℕ

@@ -17,8 +17,7 @@ use Rattle.af_ledger.specs.Tally.{AreUnreferenced, count_in_map}
 use Rattle.af_ledger.specs.declared.place.Place.{Place}
 use Rattle.af_ledger.specs.declared.place.Place.TheVariants.{Backlog, Queue, Table}
 use Rattle.af_listen.specs.NamesView.{NamesView}
-use Rattle.af_mark.specs.Grey.{IsGreyList, colors_in}
-use Rattle.af_mark.specs.declared.mark.Mark.{Mark}
+use Rattle.af_mark.specs.Grey.{IsGreyList, colors_in, MarkView}
 use Rattle.af_mark.specs.MarksView.{MarksView, born, forgotten, is_unmarked, white_count}
 use Rattle.af_queue.specs.TakenView.{TakenView, received}
 use Rattle.af_desc.specs.TrackedTableView.{TrackedTableView}
@@ -161,7 +160,7 @@ without_embryo Backlog n = if nat_lt n (2 ^ 64 - 1) then n - 1 else n
 
 -- At most this many files were there when the pass began and are not marked: those below the bound,
 -- which is no later than the next number.
-abbrev pub AreWhite : Map Mark → ℕ → ℕ → ℕ → ℕ → Type 0
+abbrev pub AreWhite : Map MarkView → ℕ → ℕ → ℕ → ℕ → Type 0
 AreWhite marks epoch bound next n = (bound ≤ next)
     × (white_count (record { colors = colors_in epoch marks; bound = bound }) ≤ n)
 

@@ -9,9 +9,8 @@ use Rattle.af_base.specs.Changes.{change_socket_at}
 use Rattle.af_ledger.specs.Counted.{CountView, more, uncounted}
 use Rattle.af_ledger.specs.declared.place.Place.{Place}
 use Rattle.af_ledger.specs.Tally.{count_in_map}
-use Rattle.af_mark.specs.Grey.{color_in, unmarked}
+use Rattle.af_mark.specs.Grey.{color_in, unmarked, MarkView}
 use Rattle.af_mark.specs.MarksView.{is_mark}
-use Rattle.af_mark.specs.declared.mark.Mark.{Mark}
 use Rattle.ordered_slab.specs.Parts.{part}
 use Rattle.af_queue.specs.Chains.{messages_of, AreApart, IsChain}
 use Rattle.af_queue.specs.declared.chain.Node.{Node}
@@ -23,7 +22,7 @@ use Rattle.af_desc.specs.declared.file_row.FileRow.{FileRow}
 pub record TrackedTableView : Type 0 where
   pub files : Map File
   pub counts : Map CountView
-  pub marks : Map Mark
+  pub marks : Map MarkView
   pub since : Since
   pub last : ℕ
   pub room : ℕ
@@ -87,7 +86,7 @@ abbrev pub counts_of : Map FileRow → Map CountView
 counts_of m = part (λ r. r.count) m
 
 -- The marks of these rows.
-abbrev pub marks_of : Map FileRow → Map Mark
+abbrev pub marks_of : Map FileRow → Map MarkView
 marks_of m = part (λ r. r.mark) m
 
 -- Each row has a chain, and no node is of two rows.
@@ -97,9 +96,9 @@ pub record AreChained (s : Slab Node) (m : Map FileRow) : Type 0 where
       → nat_eq f g ≡ false → AreApart s x.chain y.chain
 
 -- Whether the file has a mark, and is not marked in this pass.
-abbrev pub is_white_in : ℕ → Map Mark → ℕ → Bool
+abbrev pub is_white_in : ℕ → Map MarkView → ℕ → Bool
 is_white_in epoch marks f = option_map_or (λ x. not (is_mark (color_in epoch x))) (map.get marks f) false
 
 -- Whether a pass has still to mark the file, and a table holds it.
-abbrev pub is_due : ℕ → Map CountView → Map Mark → ℕ → Bool
+abbrev pub is_due : ℕ → Map CountView → Map MarkView → ℕ → Bool
 is_due epoch counts marks f = nat_lt 0 (count_in_map counts f).tabled && is_white_in epoch marks f

@@ -417,11 +417,11 @@ impl FileTable {
     /// Returns the mark of a file, if it is known.
     #[inline(always)]
     #[tactic(auto, using(crate::proofs::TrackedTableView::chains, ordered_slab::proofs::Parts::parts))]
-    pub fn mark(&self, file: &FileRef) -> Option<Mark>
-        ensures { result ≡ map.get self.now.marks file.now }
+    pub fn mark(&self, file: &FileRef) -> Option<&Mark>
+        ensures { option_copied result ≡ map.get self.now.marks file.now }
     {
         let row = self.rows.get(file)?;
-        Some(row.mark)
+        Some(&row.mark)
     }
 
     /// Sets the mark of a file, which is known. Takes no memory.
@@ -437,14 +437,26 @@ impl FileTable {
         row.mark = mark;
     }
 
+    /// Sets the position of a file in the list of grey ones: a hint, which no contract sees.
+    #[inline(always)]
+    #[tactic(auto, using(crate::proofs::TrackedTableView::rows, ordered_slab::proofs::Parts::parts))]
+    pub fn set_position(&mut self, file: &FileRef, at: usize)
+        ensures { self.new ≡ self.old }
+    {
+        let Some(row) = self.rows.get_mut(file) else {
+            return;
+        };
+        row.mark.set_position(at);
+    }
+
     /// Marks a file grey, with this position in the list, if it is not marked in this pass. Returns
     /// whether this call marked it.
     #[inline(always)]
     #[tactic(auto, using(crate::proofs::TrackedTableView::chains, ordered_slab::proofs::Parts::parts, ordered_slab::proofs::Values::lent))]
-    pub fn shade(&mut self, file: &FileRef, epoch: u32, at: u32) -> bool
+    pub fn shade(&mut self, file: &FileRef, epoch: u32, at: usize) -> bool
         ensures white { result ≡ is_white_in epoch self.old.marks file.now }
         ensures marked { self.new ≡ record self.old {
-          marks = if result then map.insert self.old.marks file.now (grey_mark epoch at)
+          marks = if result then map.insert self.old.marks file.now (grey_mark epoch)
               else self.old.marks;
         } }
         ensures len { map.len self.new.marks ≡ map.len self.old.marks }

@@ -4,10 +4,9 @@ ghost use Rattle.std.specs.Prelude.{◌≡◌, ◌<◌, ◌-◌, ◌&&◌, ℕ, 
 ghost use Rattle.std.specs.Prelude.{false, nat_eq, option_map, true, vec_capacity};
 ghost use Rattle.std.specs.FinMap as map;
 ghost use Rattle.af_base.specs.Counts.{count_in};
-ghost use Rattle.af_base.specs.Changes.{change_at};
 ghost use Rattle.af_base.specs.Places.{held_in};
 ghost use Rattle.af_ledger.specs.Tally.{count_in_map};
-ghost use Rattle.af_mark.specs.Grey.{AreUpTo, colors_in, placed};
+ghost use Rattle.af_mark.specs.Grey.{AreUpTo, colors_in};
 ghost use Rattle.af_desc.specs.Holding.{IsContents};
 ghost use Rattle.af_mark.specs.MarksView.{blackened, is_grey, is_marked, is_unmarked, knows};
 ghost use Rattle.af_mark.specs.MarksView.{shaded, visited};
@@ -18,7 +17,7 @@ use crate::files::Files;
 use crate::tracked_table::TrackedTable;
 use af_base::file_list::swap_remove_file;
 use af_base::ids::{FileRef, Ino};
-use af_mark::{Color, Mark, clamp_index};
+use af_mark::{Color, Mark};
 
 impl Files {
     /// Begins a pass over the present files: none is marked. Costs the same for any number of
@@ -73,8 +72,7 @@ impl Files {
         if file.ino().0 >= self.bound {
             return;
         }
-        let at = clamp_index(self.grey.len());
-        if self.rows.shade(file, self.epoch, at) {
+        if self.rows.shade(file, self.epoch, self.grey.len()) {
             self.white -= 1;
             self.grey.push_reserved(file.duplicate());
         }
@@ -139,7 +137,8 @@ impl Files {
             return;
         };
         if mark.is_grey_in(self.epoch) {
-            self.take_grey(file, mark.at as usize);
+            let at = mark.position();
+            self.take_grey(file, at);
         }
     }
 
@@ -151,12 +150,7 @@ impl Files {
             ≡ record self.old.marks { colors = map.insert self.old.marks.colors file.now Black } }
         ensures rest { self.new ≡ record self.old { marks = self.new.marks } }
     {
-        let mark = Mark {
-            epoch: self.epoch,
-            color: Color::Black,
-            at: 0,
-        };
-        self.rows.set_mark(file, mark);
+        self.rows.set_mark(file, Mark::black(self.epoch));
         remove_listed(&mut self.rows, &mut self.grey, file.ino(), at);
     }
 
@@ -188,26 +182,12 @@ fn remove_listed(rows: &mut TrackedTable, grey: &mut Vec<FileRef>, ino: Ino, at:
     ensures each { (f : ℕ) → count_in f grey.new.items
         ≡ count_in f grey.old.items - cond (nat_eq f ino) 1 0 }
     ensures capacity { vec_capacity grey.new ≡ vec_capacity grey.old }
-    ensures colors { (epoch : ℕ) → colors_in epoch rows.new.marks ≡ colors_in epoch rows.old.marks }
-    ensures epochs { (epoch : ℕ) → AreUpTo epoch rows.old.marks → AreUpTo epoch rows.new.marks }
-    ensures len { map.len rows.new.marks ≡ map.len rows.old.marks }
-    ensures rest { rows.new ≡ record rows.old { marks = rows.new.marks } }
+    ensures rows { rows.new ≡ rows.old }
 {
     if let Some(at) = swap_remove_file(grey, ino, at)
         && let Some(moved) = grey.get(at)
     {
-        set_hint(rows, moved, clamp_index(at));
-    }
-}
-
-/// Sets the position in the list of grey files that a file's mark keeps: a hint.
-#[inline(always)]
-fn set_hint(rows: &mut TrackedTable, file: &FileRef, at: u32)
-    ensures { rows.new ≡ record rows.old { marks = change_at (placed at) rows.old.marks file.now } }
-{
-    if let Some(mark) = rows.table.mark(file) {
-        let Mark { epoch, color, .. } = mark;
-        rows.set_mark(file, Mark { epoch, color, at });
+        rows.set_position(moved, at);
     }
 }
 

@@ -435,13 +435,21 @@ impl TrackedTable {
         self.table.set_mark(file, mark);
     }
 
+    /// Sets the position of a file in the list of grey ones: a hint, which no contract sees.
+    #[inline(always)]
+    pub fn set_position(&mut self, file: &FileRef, at: usize)
+        ensures { self.new ≡ self.old }
+    {
+        self.table.set_position(file, at);
+    }
+
     /// Marks a file grey, with this position in the list, if it is not marked in this pass. Returns
     /// whether this call marked it.
     #[inline(always)]
-    pub fn shade(&mut self, file: &FileRef, epoch: u32, at: u32) -> bool
+    pub fn shade(&mut self, file: &FileRef, epoch: u32, at: usize) -> bool
         ensures white { result ≡ is_white_in epoch self.old.marks file.now }
         ensures marked { self.new ≡ record self.old {
-          marks = if result then map.insert self.old.marks file.now (grey_mark epoch at)
+          marks = if result then map.insert self.old.marks file.now (grey_mark epoch)
               else self.old.marks;
         } }
         ensures len { map.len self.new.marks ≡ map.len self.old.marks }

@@ -13,15 +13,14 @@ use Rattle.af_base.proofs.Lookups.{insert-here}
 use Rattle.af_base.specs.World.{Map}
 use Rattle.ordered_slab.proofs.Parts.{part_many}
 use Rattle.ordered_slab.proofs.Values.{gone_few}
-use Rattle.af_mark.specs.Grey.{AreGrey, AreUpTo, IsGreyList, color_in, colors_in, unmarked}
+use Rattle.af_mark.specs.Grey.{AreGrey, AreUpTo, IsGreyList, MarkView, color_in, colors_in, unmarked}
 use Rattle.af_mark.specs.MarksView.{MarksView, blackened, forgotten, is_grey, is_grey_color, is_mark, is_unmarked, is_white}
 use Rattle.af_mark.specs.declared.color.Color.{Color}
 use Rattle.af_mark.specs.declared.color.Color.TheVariants.{Black, Grey, White}
-use Rattle.af_mark.specs.declared.mark.Mark.{Mark}
 use Rattle.af_mark.proofs.Colors.{color_after, color_known, color_now, color_white, color_without, same_marked, upto_put, upto_taken}
 
 -- Whether a file is grey by these marks.
-abbrev grey_by : ℕ → Map Mark → ℕ → Bool
+abbrev grey_by : ℕ → Map MarkView → ℕ → Bool
 grey_by e m f = option_map_or is_grey_color (map.get (colors_in e m) f) false
 
 -- A grey file is known.
@@ -40,7 +39,7 @@ white-known m f = by (map.get m.colors f) where
   by (Some Grey) e = absurd (false≢true e)
   by (Some Black) e = absurd (false≢true e)
 
-module _ (m n : Map Mark) (e : ℕ) (fs : List ℕ) (room : ℕ) (h : IsGreyList m e fs room) where
+module _ (m n : Map MarkView) (e : ℕ) (fs : List ℕ) (room : ℕ) (h : IsGreyList m e fs room) where
   -- More room changes nothing.
   pub listed-same : (gs : List ℕ) (most : ℕ) → n ≡ m → gs ≡ fs → room ≤ most → IsGreyList n e gs most
   listed-same gs most is same more = let fits = h.2 in (
@@ -48,10 +47,6 @@ module _ (m n : Map Mark) (e : ℕ) (fs : List ℕ) (room : ℕ) (h : IsGreyList
     subst (AreGrey (colors_in e n)) (sym same) (subst (λ o. AreGrey (colors_in e o) fs) (sym is) h.1),
     omega (arith, fits, more, ap map.len is),
   )
-
-  -- Other marks of the same colours.
-  pub listed-moved : colors_in e n ≡ colors_in e m → (AreUpTo e m → AreUpTo e n) → map.len n ≡ map.len m → IsGreyList n e fs room
-  listed-moved colors upto many = let fits = h.2 in (upto h.0, subst (λ cs. AreGrey cs fs) (sym colors) h.1, omega (arith, fits, many))
 
   -- A file more has a mark of no pass.
   pub listed-born : (f most : ℕ) → n ≡ map.insert m f unmarked → map.contains_key m f ≡ false → map.len n ≤ most → IsGreyList n e fs most
@@ -72,7 +67,7 @@ module _ (m n : Map Mark) (e : ℕ) (fs : List ℕ) (room : ℕ) (h : IsGreyList
     omega (arith, fits, ap map.len is, gone_few m f),
   )
 
-  module _ (f : ℕ) (x : Mark) (is : n ≡ map.insert m f x) (now : x.epoch ≡ e) (many : map.len n ≡ map.len m) where
+  module _ (f : ℕ) (x : MarkView) (is : n ≡ map.insert m f x) (now : x.epoch ≡ e) (many : map.len n ≡ map.len m) where
     -- A white file is grey, and the last of the list, which has room for it.
     pub listed-grey : x.color ≡ Grey → grey_by e m f ≡ false → (length fs < room) × IsGreyList n e (fs ++ f ∷ []) room
     listed-grey grey white =

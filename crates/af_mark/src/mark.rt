@@ -4,24 +4,35 @@ ghost use Rattle.af_mark.specs.Grey.{black_mark, color_in, grey_mark, unmarked};
 ghost use Rattle.af_mark.specs.MarksView.{is_grey_color};
 
 use crate::color::Color;
+use std::marker::Model;
 
-/// Clamps a position in the list of grey files to what a mark can keep: 32 bits.
+/// The second word of a black mark.
+const BLACK: u32 = u32::MAX;
+
+/// Clamps a position in a list of files to what 32 bits can keep, counted from 1 and below `BLACK`.
 #[inline(always)]
 pub fn clamp_index(at: usize) -> u32
-    ensures { result ≡ min at (2 ^ 32 - 1) }
+    ensures { result ≡ min at (2 ^ 32 - 3) }
 {
-    at.min(u32::MAX as usize) as u32
+    at.min(BLACK as usize - 2) as u32
 }
 
 /// A file's colour, and of which pass it is.
-#[derive(Clone, Copy)]
+#[derive(Drop)]
 pub struct Mark {
     /// The epoch of that pass; 0 is of none.
-    pub epoch: u32,
-    /// The colour that it got then.
-    pub color: Color,
-    /// Its position in the list of the grey files: a hint.
-    pub at: u32,
+    epoch: u32,
+    /// The colour that it got then: 0 is white, and `BLACK` black. Any other is grey, and the
+    /// position in the list of grey files, counted from 1: a hint, which no contract sees.
+    shade: u32,
+}
+
+impl Model for Mark {
+    ghost use Rattle.af_mark.specs.Grey.{MarkView, color_of};
+
+    ghost Value = { MarkView };
+
+    ghost view = { λ a. record { epoch = a.epoch; color = color_of a.shade } };
 }
 
 impl Mark {
@@ -30,11 +41,7 @@ impl Mark {
     pub fn none() -> Mark
         ensures { result ≡ unmarked }
     {
-        Mark {
-            epoch: 0,
-            color: Color::White,
-            at: 0,
-        }
+        Mark { epoch: 0, shade: 0 }
     }
 
     /// Makes a mark of a file that is scanned in this pass.
@@ -42,23 +49,17 @@ impl Mark {
     pub fn black(epoch: u32) -> Mark
         ensures { result ≡ black_mark epoch }
     {
-        Mark {
-            epoch,
-            color: Color::Black,
-            at: 0,
-        }
+        let shade = BLACK;
+        Mark { epoch, shade }
     }
 
     /// Makes a mark of a file that is to be scanned in this pass, with its position in the list.
     #[inline(always)]
-    pub fn grey(epoch: u32, at: u32) -> Mark
-        ensures { result ≡ grey_mark epoch at }
+    pub fn grey(epoch: u32, at: usize) -> Mark
+        ensures { result ≡ grey_mark epoch }
     {
-        Mark {
-            epoch,
-            color: Color::Grey,
-            at,
-        }
+        let shade = clamp_index(at) + 1;
+        Mark { epoch, shade }
     }
 
     /// Returns the colour in this pass.
@@ -66,10 +67,13 @@ impl Mark {
     pub fn color_in(&self, epoch: u32) -> Color
         ensures { result ≡ color_in epoch self.now }
     {
-        if self.epoch == epoch {
-            self.color
-        } else {
-            Color::White
+        if self.epoch != epoch {
+            return Color::White;
+        }
+        match self.shade {
+            0 => Color::White,
+            BLACK => Color::Black,
+            _ => Color::Grey,
         }
     }
 
@@ -79,5 +83,21 @@ impl Mark {
         ensures { result ≡ is_grey_color (color_in epoch self.now) }
     {
         matches!(self.color_in(epoch), Color::Grey)
+    }
+
+    /// Returns the position of a grey file in the list: a hint.
+    #[inline(always)]
+    pub fn position(&self) -> usize {
+        self.shade.saturating_sub(1) as usize
+    }
+
+    /// Sets that position, if the file is grey. Does not change its colour.
+    #[inline(always)]
+    pub fn set_position(&mut self, at: usize)
+        ensures { self.new ≡ self.old }
+    {
+        if self.shade > 0 && self.shade < BLACK {
+            self.shade = clamp_index(at) + 1;
+        }
     }
 }

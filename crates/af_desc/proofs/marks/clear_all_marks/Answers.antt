@@ -2,7 +2,7 @@ use Rattle.std.proofs.Common.{ℕ, ◌≡◌, ◌<◌, refl, sym, ap, ◌∙◌,
 use Rattle.std.specs.FinMap as map
 use Rattle.af_base.proofs.MapWalks.{above, fewer_above}
 use Rattle.af_base.specs.World.{Map}
-use Rattle.af_mark.specs.declared.mark.Mark.{Mark}
+use Rattle.af_mark.specs.Grey.{MarkView}
 use Rattle.af_desc.specs.TrackedTableView.{TrackedTableView}
 use Rattle.af_desc.proofs.ClearedMarks.{AreWashed, washed_known, washed_next}
 use Rattle.af_desc.proofs.marks.clear_all_marks.Goals as goal
@@ -33,5 +33,5 @@ loop-file-preserved c =
       washed = subst (AreWashed c.set_mark.new.self.marks) (sym c.ino-last.ensures) (subst (λ o. AreWashed o n) (sym is) (washed_next m n c.loop-file.last (λ q over under. one q ∙ next.least q over under) i.washed));
       known = λ f. ap (λ o. map.contains_key o f) is ∙ washed_known m n there f ∙ i.known f;
       len = c.set_mark.ensures.len ∙ i.len;
-      rest = set ∙ ap (λ (r : TrackedTableView). record r { marks = map.insert m n c.none.result }) i.rest ∙ ap (λ (o : Map Mark). record c.args.rows.now { marks = o }) (sym (ap (λ r. r.marks) set));
+      rest = set ∙ ap (λ (r : TrackedTableView). record r { marks = map.insert m n c.none.result }) i.rest ∙ ap (λ (o : Map MarkView). record c.args.rows.now { marks = o }) (sym (ap (λ r. r.marks) set));
     }

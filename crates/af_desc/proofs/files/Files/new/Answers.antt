@@ -4,9 +4,8 @@ use Rattle.std.specs.Prelude.{is_some}
 use Rattle.std.specs.Ordering.{nat_cmp}
 use Rattle.af_base.proofs.ExactLists.{just-empty}
 use Rattle.af_ledger.specs.Counted.{CountView, places_in}
-use Rattle.af_mark.specs.Grey.{color_in, colors_in}
+use Rattle.af_mark.specs.Grey.{MarkView, color_in, colors_in}
 use Rattle.af_mark.specs.MarksView.{is_grey_color}
-use Rattle.af_mark.specs.declared.mark.Mark.{Mark}
 use Rattle.af_mark.proofs.Colors.{upto_none}
 use Rattle.ordered_slab.proofs.Parts.{part_none}
 use Rattle.af_desc.proofs.FilesInvariant.{embryos-empty, white-none}
@@ -28,7 +27,7 @@ invariant_of-result c =
       listed = (
         upto_none 0 m markless,
         just-empty is_grey_color (colors_in 0 m) _ (part_none (color_in 0) m markless) c.new-3.ensures.items,
-        omega (arith, ap map.len markless ∙ map.len-empty nat_cmp Mark),
+        omega (arith, ap map.len markless ∙ map.len-empty nat_cmp MarkView),
       );
       backlogged = embryos-empty c.new.result.counts 0 uncounted;
       whites = white-none m 0 1;
