@@ -177,7 +177,7 @@ impl Procs {
         self.processes.reserve(1)
     }
 
-    /// Adds the process under the next pid. On an error nothing changes.
+    /// Adds the process under the next pid. On an error no process changes.
     #[inline(always)]
     #[tactic(auto, using(crate::proofs::Parts::part_changes))]
     fn add(&mut self, process: Process) -> Result<(), AllocError>
