@@ -12,22 +12,6 @@ use af_base::limits::MAX_INO;
 use slab::Slab;
 use std::alloc::AllocError;
 
-/// Returns the key of the value under this reference's number, if there is one. Tries the hint
-/// first, and asks the order if another number is there, or none.
-#[inline(always)]
-#[tactic(auto, using(crate::proofs::SlabValues::finds))]
-fn key_of<T>(order: &Order, slab: &Slab<NumberedValue<T>>, file: &FileRef) -> Option<usize>
-    requires place { AreInPlace (keys_of slab.now) slab.now }
-    requires listed { AreListed order.now.rows (keys_of slab.now) }
-    ensures { result ≡ map.get (keys_of slab.now) file.now }
-{
-    let key = file.key();
-    if stands_at(slab, key, file) {
-        return Some(key);
-    }
-    order.key_of(slab, file.ino())
-}
-
 /// Reserves room for this many values more: then `put` needs no memory for them. Changes no value,
 /// also on an error.
 #[inline(always)]
@@ -96,7 +80,11 @@ pub fn take<T>(order: &mut Order, slab: &mut Slab<NumberedValue<T>>, file: &File
     ensures len { slab_len slab.new ≤ slab_len slab.old }
     ensures capacity { slab.new.capacity ≡ slab.old.capacity }
 {
-    let key = key_of(order, slab, file)?;
+    let mut key = file.key();
+    // Returns early, so that a right hint costs one look at the entry.
+    if !stands_at(slab, key, file) {
+        key = order.key_of(slab, file.ino())?;
+    }
     let entry = slab.remove(key);
     order.trim(slab, file);
     Some(entry.value)
