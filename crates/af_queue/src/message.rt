@@ -12,8 +12,8 @@ use std::alloc::{AllocError, Global};
 use std::marker::Model;
 use std::mem;
 
-/// The attached files of a message. One needs no allocation.
-pub type Attached = SmallVec<FileRef, 1>;
+/// The attached files of a message. Two need no allocation.
+pub type Attached = SmallVec<FileRef, 2>;
 
 /// A message in a queue: its bytes, its attached files, and the user who is charged for them.
 #[derive(Drop)]
@@ -129,7 +129,7 @@ impl Msg {
         Ok(Items::of_small(SmallVec::from_slice(alloc, front)?))
     }
 
-    /// Copies its attached files. One needs no memory.
+    /// Copies its attached files. Two need no memory.
     pub(crate) fn copy_attached(&self, alloc: Global) -> Result<Attached, AllocError>
         ensures value { IfOk result (λ files. files.items ≡ self.now.attached) }
         ensures bound { IfOk result (λ files. small_vec_len files ≤ SCM_MAX_FD) }

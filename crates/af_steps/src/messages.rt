@@ -299,7 +299,7 @@ fn check_parts(
     Ok(())
 }
 
-/// Reserves room for this many files in an empty list. One file needs no memory.
+/// Reserves room for this many files in an empty list. Two files need no memory.
 #[inline(always)]
 fn reserve_files(files: &mut Attached, count: usize) -> Result<(), AllocError>
     requires empty { files.old.items ≡ [] }
