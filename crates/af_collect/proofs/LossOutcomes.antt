@@ -228,6 +228,10 @@ none-held w s none = by (map.get w.files s) (none-silent w s none) (none-waits w
   by None silent bare = refl
   by (Some x) silent bare = ap (λ q. attached_in q ++ backlog_of x) silent ∙ bare
 
+-- So it loses nothing.
+pub nothing-lost : (w v : World) (s : ℕ) → v ≡ without_place w s → places_at w s ≡ 0 → v ≡ w
+nothing-lost w v s is none = is ∙ lost-embryo w s (none-silent w s none) ∙ none-dequeued w s (none-waits w s none)
+
 -- Where a file that nothing holds lost the first of what it holds, the outcome is the same.
 pub settles-lost : (w v : World) (s : ℕ) → v ≡ without_place w s → IsLive w s → refs w s ≡ 0 → 0 < places_at w s → (end : World) → Settles v end → Settles w end
 settles-lost w v s is live none some end h = elim (cases_lt 0 (length (queue_at w s))) [

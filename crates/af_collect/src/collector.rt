@@ -1,6 +1,6 @@
 //! The holdings, and how far a pass is: what each change of one owes to the other.
 ghost use Rattle.std.specs.Prelude.{◌≡◌, ◌&&◌, ◌+◌, ◌<◌, ◌≤◌, ℕ, Some, [], if◌then◌else◌, true};
-ghost use Rattle.std.specs.Prelude.{nat_eq, slice_get};
+ghost use Rattle.std.specs.Prelude.{IsTrue, false, nat_eq, slice_get};
 ghost use Rattle.af_base.specs.declared.limits.TheConstants.{MAX_FILES};
 ghost use Rattle.af_base.specs.World.{IsLive};
 ghost use Rattle.af_base.specs.Counts.{refs};
@@ -62,24 +62,23 @@ impl Collector {
             ≡ record self.old.progress { reclaimed = self.new.progress.reclaimed } }
     {
         while let Some(file) = self.holdings.next_unreferenced() {
-            // Most files hold nothing, and one look tells.
-            if self.holdings.is_bare(&file) {
+            // One look takes what a file holds first, or tells that it holds nothing.
+            if !self.drop_place(&file) {
                 self.free_bare(&file);
-            } else {
-                self.drop_place(&file);
             }
         }
     }
 
-    /// Drops the first message or embryo that an unreferenced file holds. While marking, it first
-    /// marks the files there.
+    /// Drops the first message or embryo that an unreferenced file holds. Returns whether there was
+    /// one. While marking, it first marks the files there.
     #[inline(always)]
-    fn drop_place(&mut self, file: &FileRef)
+    fn drop_place(&mut self, file: &FileRef) -> bool
         requires kept { KeepsPass self.old }
         requires live { IsLive self.old.holdings.world file.now }
         requires unheld { refs self.old.holdings.world file.now ≡ 0 }
-        requires some { 0 < places_at self.old.holdings.world file.now }
         ensures kept { KeepsPass self.new }
+        ensures some { IsTrue result → 0 < places_at self.old.holdings.world file.now }
+        ensures none { result ≡ false → places_at self.old.holdings.world file.now ≡ 0 }
         ensures holdings { self.new.holdings ≡ record self.old.holdings {
           world = without_place self.old.holdings.world file.now;
           marks = self.new.holdings.marks;
@@ -91,7 +90,7 @@ impl Collector {
         // A held file is live, as in each well-formed world.
         self.holdings.lemma_is_whole();
         self.shade_first(file);
-        self.holdings.drop_place(file);
+        self.holdings.drop_place(file)
     }
 
     /// Marks the files that a process is about to lose, while marking.

@@ -1,9 +1,8 @@
 //! The freeing of unreferenced files, one file and one place at a time, without memory.
-ghost use Rattle.std.specs.Prelude.{◌≡◌, ◌<◌, [], IfSome, IfNone, IsTrue, drop, false, length};
+ghost use Rattle.std.specs.Prelude.{◌≡◌, ◌<◌, [], IfSome, IfNone, IsTrue, false};
 ghost use Rattle.std.specs.Prelude.{nat_eq, true};
 ghost use Rattle.af_base.specs.World.{IsLive};
 ghost use Rattle.af_base.specs.Counts.{refs};
-ghost use Rattle.af_base.specs.Changes.{dequeued, with_queue, with_socket};
 ghost use Rattle.af_base.specs.Places.{held_by, queue_at};
 ghost use Rattle.af_base.specs.Pass.{emptied};
 ghost use Rattle.af_base.specs.Unheld.{without};
@@ -15,65 +14,34 @@ ghost use Rattle.af_mark.specs.MarksView.{forgotten};
 use crate::holdings::Holdings;
 use crate::messages::uncharge_message;
 use af_base::ids::FileRef;
+use af_desc::Popped;
 use af_ledger::Place;
 use af_queue::Attached;
 
 impl Holdings {
-    /// Removes the first message of a queue, and its places. Returns whether there was one. Takes
-    /// no memory.
+    /// Removes the first message of a file, or else its first embryo, and their places. Returns
+    /// whether there was one. Takes no memory.
     #[inline(always)]
-    fn drop_first(&mut self, file: &FileRef) -> bool
+    pub(crate) fn drop_place(&mut self, file: &FileRef) -> bool
         ensures world { self.new ≡ record self.old {
-          world = with_queue self.old.world file.now (drop 1 (queue_at self.old.world file.now));
-          message_room = self.new.message_room;
-        } }
-        ensures some { IsTrue result → 0 < length (queue_at self.old.world file.now) }
-        ensures none { result ≡ false → queue_at self.old.world file.now ≡ [] }
-    {
-        let mut attached = Attached::new(self.alloc);
-        let Some(user) = self.files.pop(file, &mut attached) else {
-            return false;
-        };
-        uncharge_message(&mut self.files, &mut self.ledger, user, attached.as_slice());
-        true
-    }
-
-    /// Removes the first embryo of a listener from its backlog, if there is one. Takes no memory.
-    #[inline(always)]
-    fn drop_embryo(&mut self, file: &FileRef)
-        ensures { self.new
-            ≡ record self.old { world = with_socket self.old.world file.now dequeued } }
-    {
-        let Some(embryo) = self.files.dequeue(file) else {
-            return;
-        };
-        self.files.drop_one(&Place::Backlog, &embryo);
-    }
-
-    /// Removes the first message of a file, or else its first embryo, and their places. Takes no
-    /// memory.
-    #[inline(always)]
-    pub(crate) fn drop_place(&mut self, file: &FileRef)
-        ensures { self.new ≡ record self.old {
           world = without_place self.old.world file.now;
           message_room = self.new.message_room;
         } }
+        ensures some { IsTrue result → 0 < places_at self.old.world file.now }
+        ensures none { result ≡ false → places_at self.old.world file.now ≡ 0 }
     {
-        if !self.drop_first(file) {
-            self.drop_embryo(file);
+        let mut attached = Attached::new(self.alloc);
+        let Some(popped) = self.files.pop(file, &mut attached) else {
+            return false;
+        };
+        match popped {
+            Popped::Message(user) => {
+                let files = attached.as_slice();
+                uncharge_message(&mut self.files, &mut self.ledger, user, files);
+            }
+            Popped::Embryo(embryo) => self.files.drop_one(&Place::Backlog, &embryo),
         }
-    }
-
-    /// Returns whether a file holds nothing: no message, and no embryo.
-    #[inline(always)]
-    pub(crate) fn is_bare(&self, file: &FileRef) -> bool
-        ensures some { result ≡ false → 0 < places_at self.now.world file.now }
-        ensures none { result ≡ true → places_at self.now.world file.now ≡ 0 }
-    {
-        match self.socket(file) {
-            Some(socket) => socket.queue().len() == 0 && socket.embryos() == 0,
-            None => true,
-        }
+        true
     }
 
     /// Drops all places that a file holds. Takes no memory.
@@ -83,9 +51,7 @@ impl Holdings {
           message_room = self.new.message_room;
         } }
     {
-        while !self.is_bare(file) {
-            self.drop_place(file);
-        }
+        while self.drop_place(file) {}
     }
 
     /// Returns an unreferenced file, if there is one.

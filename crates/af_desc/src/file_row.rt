@@ -2,16 +2,16 @@
 ghost use Rattle.std.specs.Prelude.{◌≡◌, ◌<◌, [], IfSome, IfNone, IfOk, OnOk, OnErr};
 ghost use Rattle.std.specs.Prelude.{None, false, is_none, length, nat_lt, true};
 ghost use Rattle.af_base.specs.Changes.{file_with, pushed};
-ghost use Rattle.af_base.specs.Places.{contents, queue_of};
+ghost use Rattle.af_base.specs.Places.{backlog_of, contents, queue_of};
 ghost use Rattle.af_base.specs.Refusals.{socket_of};
 ghost use Rattle.af_base.specs.Whole.{IsMessageWithin};
 ghost use Rattle.af_queue.specs.Chains.{has_room, messages_of, IsChain, SameElsewhere};
 ghost use Rattle.af_queue.specs.TakenView.{nothing_received};
 ghost use Rattle.af_desc.specs.FilesView.{IsFirst, name_of, popped, received_from, received_of};
-ghost use Rattle.af_desc.specs.Holding.{IsContents};
+ghost use Rattle.af_desc.specs.Holding.{IsContents, IsPopped, without_popped};
 ghost use Rattle.af_desc.specs.TrackedTableView.{file_in, socket_of_row};
 
-use crate::contents::Contents;
+use crate::contents::{Contents, Popped};
 use crate::socket::{FileKind, Socket};
 use af_base::ids::Uid;
 use af_base::limits::MAX_MESSAGES;
@@ -145,7 +145,7 @@ impl FileRow {
     /// Removes the first message from its queue, if there is one. Moves its files into an empty
     /// list, and returns the user who is charged for them. Takes no memory.
     #[inline(always)]
-    pub fn pop(&mut self, nodes: &mut Slab<Node>, attached: &mut Attached) -> Option<Uid>
+    fn pop_message(&mut self, nodes: &mut Slab<Node>, attached: &mut Attached) -> Option<Uid>
         requires empty { attached.old.items ≡ [] }
         requires chain { IsChain nodes.old self.old.chain }
         ensures some { IfSome result (λ user.
@@ -162,6 +162,28 @@ impl FileRow {
         let mut message = pool::pop(nodes, &mut self.chain)?;
         message.swap_attached(attached);
         Some(message.user())
+    }
+
+    /// Removes its first message, whose files it moves into an empty list, or else its first
+    /// embryo. Takes no memory.
+    #[inline(always)]
+    pub fn pop(&mut self, nodes: &mut Slab<Node>, attached: &mut Attached) -> Option<Popped>
+        requires empty { attached.old.items ≡ [] }
+        requires chain { IsChain nodes.old self.old.chain }
+        ensures popped { IsPopped result attached.new.items
+            (queue_of (file_in nodes.old self.old)) (backlog_of (file_in nodes.old self.old)) }
+        ensures file { file_in nodes.new self.new
+            ≡ file_with (without_popped result) (file_in nodes.old self.old) }
+        ensures chain { IsChain nodes.new self.new.chain }
+        ensures others { SameElsewhere nodes.old self.old.chain nodes.new self.new.chain }
+        ensures rest { self.new
+            ≡ record self.old { kind = self.new.kind; chain = self.new.chain } }
+    {
+        if let Some(user) = self.pop_message(nodes, attached) {
+            return Some(Popped::Message(user));
+        }
+        let embryo = self.kind.dequeue()?;
+        Some(Popped::Embryo(embryo))
     }
 
     /// Takes from its queue what a receive of at most this many bytes gives (recvmsg(2)); nothing

@@ -11,16 +11,16 @@ ghost use Rattle.af_base.specs.Whole.{IsMessageWithin};
 ghost use Rattle.af_ledger.specs.Counted.{fewer, more, places_in, IsCountable, IsCounted};
 ghost use Rattle.af_ledger.specs.Tally.{count_in_map};
 ghost use Rattle.af_ledger.specs.declared.place.Place.TheVariants.{Table};
-ghost use Rattle.af_desc.specs.FilesView.{IsFirst, hung_up, name_in, popped, received_from};
+ghost use Rattle.af_desc.specs.FilesView.{hung_up, name_in, received_from};
 ghost use Rattle.af_desc.specs.FilesView.{received_of, socket_in};
 ghost use Rattle.af_desc.specs.FileTableView.{with_entry, with_socket, with_socket_and_room};
 ghost use Rattle.af_desc.specs.FileTableView.{without_entry};
-ghost use Rattle.af_desc.specs.Holding.{IsContents};
+ghost use Rattle.af_desc.specs.Holding.{IsContents, IsPopped, without_popped};
 ghost use Rattle.af_desc.specs.TrackedTableView.{file_of, is_due, is_white_in};
 ghost use Rattle.af_mark.specs.Grey.{black_mark, grey_mark};
 ghost use Rattle.af_queue.specs.TakenView.{nothing_received};
 
-use crate::contents::Contents;
+use crate::contents::{Contents, Popped};
 use crate::file_row::FileRow;
 use crate::socket::{FileKind, Socket};
 use af_base::ids::{FileRef, Ino, Uid};
@@ -292,17 +292,16 @@ impl FileTable {
         row.push(&mut self.nodes, message);
     }
 
-    /// Removes the first message from the queue of that socket, if there is one. Moves its files
-    /// into an empty list, and returns the user who is charged for them. Takes no memory.
+    /// Removes the first message of a file, whose files it moves into an empty list, or else its
+    /// first embryo. Takes no memory.
     #[inline(always)]
     #[tactic(auto, using(crate::proofs::TrackedTableView::messages, ordered_slab::proofs::Parts::parts))]
-    pub fn pop_message(&mut self, file: &FileRef, attached: &mut Attached) -> Option<Uid>
+    pub fn pop(&mut self, file: &FileRef, attached: &mut Attached) -> Option<Popped>
         requires { attached.old.items ≡ [] }
-        ensures some { IfSome result (λ user.
-            IsFirst attached.new.items user (queue_in self.old.files file.now)) }
-        ensures none { IfNone result (queue_in self.old.files file.now ≡ []) }
-        ensures rest { self.new
-            ≡ with_socket_and_room self.old file.now popped self.new.message_room }
+        ensures popped { IsPopped result attached.new.items
+            (queue_in self.old.files file.now) (backlog_in self.old.files file.now) }
+        ensures rest { self.new ≡ with_socket_and_room self.old file.now
+            (without_popped result) self.new.message_room }
     {
         let row = self.rows.get_mut(file)?;
         row.pop(&mut self.nodes, attached)

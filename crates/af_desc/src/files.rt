@@ -14,12 +14,14 @@ ghost use Rattle.af_base.specs.World.{untold};
 ghost use Rattle.af_mark.specs.MarksView.{is_grey, is_unmarked};
 ghost use Rattle.af_desc.specs.TrackedTableView.{file_of};
 ghost use Rattle.af_base.specs.Told.{AreChanged, AreReleased};
-ghost use Rattle.af_desc.specs.FilesView.{AreNamed, IsFirst, after_end, changed, changed_queue, entered};
+ghost use Rattle.af_desc.specs.FilesView.{AreNamed, after_end, changed, changed_queue, entered};
 ghost use Rattle.af_desc.specs.FilesView.{freed, is_full, is_live, is_unmarked_socket, name_of};
-ghost use Rattle.af_desc.specs.FilesView.{paired, popped, received_from, received_of, socket_in};
+ghost use Rattle.af_desc.specs.Holding.{IsPopped, without_popped};
+ghost use Rattle.af_desc.specs.FilesView.{paired, received_from, received_of, socket_in};
 ghost use Rattle.af_desc.specs.FilesView.{without};
 ghost use Rattle.af_queue.specs.TakenView.{nothing_received};
 
+use crate::contents::Popped;
 use crate::counts::with_embryo;
 use crate::socket::{FileKind, Socket};
 use crate::tracked_table::{TrackedTable, widen};
@@ -355,17 +357,17 @@ impl Files {
         self.rows.take(file, self.alloc, max, taken)
     }
 
-    /// Removes the first message from the queue of that socket, if there is one. Moves its files
-    /// into an empty list, and returns the user who is charged for them. Takes no memory.
+    /// Removes the first message of a file, whose files it moves into an empty list, or else its
+    /// first embryo. Takes no memory.
     #[inline(always)]
-    pub fn pop(&mut self, file: &FileRef, attached: &mut Attached) -> Option<Uid>
+    pub fn pop(&mut self, file: &FileRef, attached: &mut Attached) -> Option<Popped>
         requires { attached.old.items ≡ [] }
-        ensures some { IfSome result (λ user.
-            IsFirst attached.new.items user (queue_in self.old.files file.now)) }
-        ensures none { IfNone result (queue_in self.old.files file.now ≡ []) }
-        ensures rest { self.new ≡ changed_queue popped file.now self.new.message_room self.old }
+        ensures popped { IsPopped result attached.new.items
+            (queue_in self.old.files file.now) (backlog_in self.old.files file.now) }
+        ensures rest { self.new
+            ≡ changed_queue (without_popped result) file.now self.new.message_room self.old }
     {
-        self.rows.pop_message(file, attached)
+        self.rows.pop(file, attached)
     }
 
     /// Makes an embryo: a socket that is connected to that client, and the client to it, under the

@@ -11,6 +11,6 @@ mod marks;
 mod socket;
 mod tracked_table;
 
-pub use contents::Contents;
+pub use contents::{Contents, Popped};
 pub use files::Files;
 pub use socket::Socket;

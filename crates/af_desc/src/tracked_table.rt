@@ -14,16 +14,16 @@ ghost use Rattle.af_ledger.specs.Counted.{fewer, more, places_in, IsCountable, I
 ghost use Rattle.af_ledger.specs.Tally.{count_in_map};
 ghost use Rattle.af_ledger.specs.declared.place.Place.TheVariants.{Table};
 ghost use Rattle.af_mark.specs.Grey.{black_mark, grey_mark};
-ghost use Rattle.af_desc.specs.FilesView.{IsFirst, hung_up, name_in, popped, received_from};
+ghost use Rattle.af_desc.specs.FilesView.{hung_up, name_in, received_from};
 ghost use Rattle.af_desc.specs.FilesView.{received_of, socket_in};
-ghost use Rattle.af_desc.specs.Holding.{IsContents};
+ghost use Rattle.af_desc.specs.Holding.{IsContents, IsPopped, without_popped};
 ghost use Rattle.af_desc.specs.TrackedTableView.{file_of, is_due, is_white_in, with_row};
 ghost use Rattle.af_desc.specs.TrackedTableView.{with_socket, with_socket_and_room, without_row};
 ghost use Rattle.af_base.specs.Told.{AreChanged, AreReleased};
 ghost use Rattle.af_desc.specs.Told.{IsDirtyList, MakesDirty};
 ghost use Rattle.af_queue.specs.TakenView.{nothing_received};
 
-use crate::contents::Contents;
+use crate::contents::{Contents, Popped};
 use crate::file_table::FileTable;
 use crate::socket::FileKind;
 use af_base::file_list::swap_remove_file;
@@ -321,20 +321,19 @@ impl TrackedTable {
         self.table.push_message(file, message);
     }
 
-    /// Removes the first message from the queue of that socket, if there is one. Moves its files
-    /// into an empty list, and returns the user who is charged for them. Takes no memory.
+    /// Removes the first message of a file, whose files it moves into an empty list, or else its
+    /// first embryo. Takes no memory.
     #[inline(always)]
-    pub fn pop_message(&mut self, file: &FileRef, attached: &mut Attached) -> Option<Uid>
+    pub fn pop(&mut self, file: &FileRef, attached: &mut Attached) -> Option<Popped>
         requires { attached.old.items ≡ [] }
-        ensures some { IfSome result (λ user.
-            IsFirst attached.new.items user (queue_in self.old.files file.now)) }
-        ensures none { IfNone result (queue_in self.old.files file.now ≡ []) }
-        ensures rest { self.new
-            ≡ with_socket_and_room self.old file.now popped self.new.message_room }
+        ensures popped { IsPopped result attached.new.items
+            (queue_in self.old.files file.now) (backlog_in self.old.files file.now) }
+        ensures rest { self.new ≡ with_socket_and_room self.old file.now
+            (without_popped result) self.new.message_room }
     {
-        let first = self.table.pop_message(file, attached)?;
+        let popped = self.table.pop(file, attached)?;
         add_dirty(self.tells_changed, &mut self.table, &mut self.changed, file);
-        Some(first)
+        Some(popped)
     }
 
     /// Takes from the queue of that socket what a receive of at most this many bytes gives

@@ -14,4 +14,4 @@ returns-clause-kept c =
     let f = c.args.file.now in
     let frame = c.shade_first.ensures.frame in
     let kept = kept_lost f c.lemma_is_whole.ensures.whole c.requires.live c.requires.unheld q.holdings.marks c.shade_first.ensures.marked c.requires.kept (subst KeepsPass frame c.shade_first.ensures.kept) in
-    subst (λ (s : HoldingsView). PassInvariant s.world q.begun.value.world s.marks q.progress) (sym c.drop_place.ensures) (subst (λ t. t) (λ j. PassInvariant (without_place (sym frame j).holdings.world f) (sym frame j).begun.value.world q.holdings.marks (sym frame j).progress) kept)
+    subst (λ (s : HoldingsView). PassInvariant s.world q.begun.value.world s.marks q.progress) (sym c.drop_place.ensures.world) (subst (λ t. t) (λ j. PassInvariant (without_place (sym frame j).holdings.world f) (sym frame j).begun.value.world q.holdings.marks (sym frame j).progress) kept)

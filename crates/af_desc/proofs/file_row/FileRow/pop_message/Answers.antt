@@ -4,7 +4,7 @@ use Rattle.af_queue.specs.Chains.{messages_of}
 use Rattle.af_desc.specs.FilesView.{popped}
 use Rattle.af_desc.specs.TrackedTableView.{refilled}
 use Rattle.af_desc.proofs.TrackedTableView.{queue_changed, queue_of_kind}
-use Rattle.af_desc.proofs.file_row.FileRow.pop.Goals as goal
+use Rattle.af_desc.proofs.file_row.FileRow.pop_message.Goals as goal
 
 pub returns-clause-some : goal.returns-clause-some
 returns-clause-some c =
