@@ -98,7 +98,7 @@ try-lib: $(UNPROVED)
 
 lib:
 	$(need) rt $(firstword $(AR))
-	$(call in_crate,scm_c) rt lib
+	$(call in_crate,scm_c) sh -c "rt check --only '' && ../../tools/embed --build"
 	@$(MAKE) --no-print-directory archive
 
 # The library and the few heap functions that it stands on, as one archive.
