@@ -1,6 +1,5 @@
--- Columns that are joined, and lines behind each other.
-use Rattle.std.proofs.Common.{◌≡◌, ℕ, List, [], ◌∷◌, ◌++◌, Some, refl, sym, ap, ◌∙◌, append_assoc, append-nil}
-use Rattle.std.specs.List.{flat_map}
+-- Columns that are joined, and the line of a file.
+use Rattle.std.proofs.Common.{◌≡◌, ℕ, List, [], ◌∷◌, ◌++◌, Some, refl, sym, ap, ◌∙◌, append_assoc}
 use Rattle.std.specs.FinMap as map
 use Rattle.af_base.specs.Whole.{name_at}
 use Rattle.af_base.specs.World.{AsSocket, File, Plain, World}
@@ -48,16 +47,3 @@ name_shown w f (AsSocket s) at = rw at refl
 -- The line of a file of a world.
 abbrev pub line : World → ℕ × File → List ℕ
 line w entry = file_line w entry.0 entry.1
-
--- One line more is written.
-pub line_more : (w : World) (text more whole : List ℕ) (entry : ℕ × File) (old rest : List (ℕ × File)) → old ≡ entry ∷ rest → more ≡ text ++ line w entry
-    → text ++ flat_map (line w) old ≡ whole → more ++ flat_map (line w) rest ≡ whole
-line_more w text more whole entry old rest next is so =
-    ap (λ t. t ++ flat_map (line w) rest) is
-    ∙ append_assoc text (line w entry) (flat_map (line w) rest)
-    ∙ ap (λ es. text ++ flat_map (line w) es) (sym next)
-    ∙ so
-
--- No file is left.
-pub lines_done : (w : World) (text whole : List ℕ) (left : List (ℕ × File)) → left ≡ [] → text ++ flat_map (line w) left ≡ whole → text ≡ whole
-lines_done w text whole left none so = sym (append-nil text) ∙ ap (λ es. text ++ flat_map (line w) es) (sym none) ∙ so

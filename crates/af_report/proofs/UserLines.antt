@@ -6,6 +6,7 @@ use Rattle.std.proofs.lemmas.Option.{slice_get_within}
 use Rattle.af_base.specs.World.{World}
 use Rattle.af_base.specs.Counts.{charged}
 use Rattle.af_report.specs.Totals.{user_line}
+use Rattle.af_report.proofs.Pieces.{none_left, piece_taken}
 
 -- The list from an element on begins with it.
 drop_at : {X : Type 0} (xs : List X) (i : ℕ) (x : X) → slice_get xs i ≡ Some x → drop i xs ≡ x ∷ drop (suc i) xs
@@ -30,14 +31,11 @@ pub line_more : (w : World) (text more whole : List ℕ) (i u : ℕ) → slice_g
 line_more w text more whole i u at is so =
     let next : i + 1 ≡ suc i = omega arith in
     ap (λ k. more ++ flat_map (line w) (drop k w.users)) next
-    ∙ ap (λ t. t ++ flat_map (line w) (drop (suc i) w.users)) is
-    ∙ append_assoc text (line w u) (flat_map (line w) (drop (suc i) w.users))
-    ∙ ap (λ us. text ++ flat_map (line w) us) (sym (drop_at w.users i u at))
-    ∙ so
+    ∙ piece_taken (line w) u (drop i w.users) (drop (suc i) w.users) text more whole (drop_at w.users i u at) is so
 
 -- No user is left.
 pub lines_done : (w : World) (text whole : List ℕ) (i : ℕ) → length w.users ≤ i → text ++ flat_map (line w) (drop i w.users) ≡ whole → text ≡ whole
-lines_done w text whole i past so = sym (append-nil text) ∙ ap (λ us. text ++ flat_map (line w) us) (sym (drop_past w.users i past)) ∙ so
+lines_done w text whole i past so = none_left (line w) (drop i w.users) text whole (drop_past w.users i past) so
 
 -- One user more is kept.
 pub user_more : (us ks ls : List ℕ) (i u : ℕ) → slice_get us i ≡ Some u → ls ≡ ks ++ u ∷ [] → ks ++ drop i us ≡ us → ls ++ drop (i + 1) us ≡ us

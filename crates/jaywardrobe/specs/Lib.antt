@@ -29,5 +29,5 @@ pub use Rattle.af_layer.specs.Taken
 pub use Rattle.af_owned.specs.Lending
 pub use Rattle.af_owned.specs.OwnedView
 pub use Rattle.af_report.specs.Check
+pub use Rattle.af_report.specs.Graph
 pub use Rattle.af_report.specs.Totals
-pub use Rattle.af_graph.specs.Graph

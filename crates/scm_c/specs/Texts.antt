@@ -3,7 +3,7 @@ use Rattle.std.specs.Prelude.{◌≡◌, ◌⊎◌, ℕ, ℤ, pos, List, [], len
 use Rattle.af_base.specs.declared.errno.Errno.TheVariants.{ENOMEM}
 use Rattle.af_base.specs.World.{World}
 use Rattle.af_base.specs.Whole.{name_at}
-use Rattle.af_graph.specs.Graph.{IsGraph}
+use Rattle.af_report.specs.Graph.{IsGraph}
 use Rattle.scm_c.specs.Codes.{error_code}
 use Rattle.scm_c.specs.Written.{over}
 

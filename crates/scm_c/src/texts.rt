@@ -8,7 +8,7 @@ use crate::handle::Handle;
 use crate::messages::write_bytes;
 use af_base::errno::Errno;
 use af_base::ids::Ino;
-use af_graph::graph;
+use af_report::graph;
 use std::alloc::Global;
 
 /// Writes the abstract name of a socket (unix(7)), as many bytes as there is room for. Answers how

@@ -2,7 +2,7 @@
 use Rattle.std.specs.Prelude.{ℕ, List, [], ◌∷◌, Option, codes, ⊤}
 use Rattle.std.specs.Option.{option_and_then}
 use Rattle.af_base.specs.World.{World}
-use Rattle.af_graph.specs.Graph.{IsGraph}
+use Rattle.af_report.specs.Graph.{IsGraph}
 use Rattle.scm_lines.specs.Keywords.{meaning}
 use Rattle.scm_lines.specs.Words.{only_of, words_of}
 use Rattle.scm_play.specs.declared.own.Question.{Question}

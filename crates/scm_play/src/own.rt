@@ -5,7 +5,7 @@ ghost use Rattle.scm_lines.specs.Keywords.{meaning};
 
 use crate::help::HELP;
 use crate::who::holders;
-use af_graph::graph;
+use af_report::graph;
 use af_steps::Engine;
 use scm_lines::only_word;
 use std::alloc::{AllocError, Global};

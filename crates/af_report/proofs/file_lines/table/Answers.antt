@@ -3,7 +3,8 @@ use Rattle.std.specs.FinMap as map
 use Rattle.std.specs.List.{flat_map}
 use Rattle.af_base.proofs.MapWalks.{above, all_entries, fewer_above, next_entry, no_entry}
 use Rattle.af_report.specs.Table.{header}
-use Rattle.af_report.proofs.TableLines.{line, line_more, lines_done}
+use Rattle.af_report.proofs.Pieces.{none_left, piece_taken}
+use Rattle.af_report.proofs.TableLines.{line}
 use Rattle.af_report.proofs.WalkStart.{none_at_zero}
 use Rattle.af_report.proofs.file_lines.table.Goals as goal
 
@@ -19,7 +20,7 @@ loop-file-preserved c =
     let next = c.in-Some.ensures in
     let at = next_entry w.files w.files refl c.loop-file.last c.in-Some.file next.above next.live next.least in
     let more = c.push_line.ensures at.0 at.1 in
-    let rest = line_more w c.loop-file.text.items _ _ (c.in-Some.file, at.0) _ _ at.2 (search rules) c.loop-file.invariant in
+    let rest = piece_taken (line w) (c.in-Some.file, at.0) _ _ c.loop-file.text.items _ _ at.2 (search rules) c.loop-file.invariant in
     ap (λ n. c.push_line.new.text.items ++ flat_map (line w) (above n (map.entries w.files))) c.ino-last.ensures ∙ rest
 
 pub loop-file-smaller : goal.loop-file-smaller
@@ -32,4 +33,4 @@ pub returns : goal.returns
 returns c =
     let w = c.args.engine.now.world in
     let none = no_entry w.files w.files refl c.loop-file.last c.in_default.ensures.none in
-    lines_done w c.loop-file.text.items _ _ none c.loop-file.invariant
+    none_left (line w) _ c.loop-file.text.items _ none c.loop-file.invariant

@@ -1,0 +1,3 @@
+-- Lemmas.
+mod BinarySearch
+mod Pictures
