@@ -446,6 +446,19 @@ fd 0
   100001       1       0 plain     -            0    0        0 -
 """
 
+# Four of five files come and go by turns, 100,000 of them.
+FEW_AT_ONCE = (
+    "spawn 1000 16\n" + 5 * "1 open\n" + 25_000 * "".join(f"1 close {fd}\n1 open\n" for fd in range(4)) + "table\n"
+)
+AT_ONCE = """fd 3
+   inode    refs     fly kind      state     msgs wait     peer name
+       5       1       0 plain     -            0    0        0 -
+  100002       1       0 plain     -            0    0        0 -
+  100003       1       0 plain     -            0    0        0 -
+  100004       1       0 plain     -            0    0        0 -
+  100005       1       0 plain     -            0    0        0 -
+"""
+
 # As many processes as may be.
 ALL_PROCESSES = 1_024 * "spawn 1000 0\n" + "spawn 1000 0\nspawn 1000 1025\n1 fork\n1 exit\n2 fork\n"
 PROCESSES = """pid 1024
@@ -456,6 +469,23 @@ ok
 pid 1025
 """
 
+# As many files as may be live, one of them in flight. A pass looks at each, and three times at most: it goes on after a
+# slice of as many units as there are files, and ends with the third such slice.
+FULL_PASS = (
+    "".join(f"spawn 1000 1024\n{1_024 * f'{pid} open{chr(10)}'}" for pid in range(1, 64))
+    + f"spawn 1000 1024\n64 pair stream\n{1_022 * f'64 open{chr(10)}'}64 send 0 m 0\n64 open\ncheck\nbegin\n"
+    + 3 * "slice 65536\n" + "slice 1\n"
+)
+PASS = """sent 1
+EMFILE
+check ok live 65536 garbage 0
+started 1
+working
+working
+pass 1 reclaimed 0
+EIDLE
+"""
+
 LONG_SCRIPTS = [
     ("full queues", FULL_QUEUES, QUEUES),
     ("a full listener", FULL_LISTENER, LISTENER),
@@ -463,14 +493,24 @@ LONG_SCRIPTS = [
     ("a long chain of streams", LONG_CHAIN, CHAIN),
     ("full tables", FULL_TABLES, TABLES),
     ("many lives", MANY_LIVES, LIVES),
+    ("a few files at once", FEW_AT_ONCE, AT_ONCE),
     ("all processes", ALL_PROCESSES, PROCESSES),
+    ("a pass over all files", FULL_PASS, PASS),
 ]
+# These need little memory, since a file that is gone leaves nothing behind: a row of 16 bytes for each would take more.
+IN_LITTLE_MEMORY = ["many lives", "a few files at once"]
+
+
+def bound_memory():
+    """Lets the program have 1 MB of data at most."""
+    resource.setrlimit(resource.RLIMIT_DATA, (1 << 20, 1 << 20))
 
 
 def long_scripts(program: Program) -> Iterator[Check]:
     """Each is run to its end, and its last replies are these."""
     for name, script, replies in LONG_SCRIPTS:
-        found = program.run("run", script.encode())
+        how = {"preexec_fn": bound_memory} if name in IN_LITTLE_MEMORY else {}
+        found = program.run("run", script.encode(), **how)
         last = Answer(found.status, found.output[-len(replies) :], found.error)
         yield name, last, last == Answer(0, replies.encode())
 

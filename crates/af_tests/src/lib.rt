@@ -4,14 +4,4 @@
 #[cfg(test)]
 mod layer;
 #[cfg(test)]
-mod ledger;
-#[cfg(test)]
-mod marks;
-#[cfg(test)]
-mod order;
-#[cfg(test)]
-mod owned;
-#[cfg(test)]
 mod steps;
-#[cfg(test)]
-mod units;

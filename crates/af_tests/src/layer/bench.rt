@@ -21,7 +21,7 @@ pub fn spawn() -> Event {
 }
 
 /// Returns a step of the process as an event.
-pub fn step(pid: u32, step: Step) -> Event {
+fn step(pid: u32, step: Step) -> Event {
     Event::Proc(Pid(pid), step)
 }
 
@@ -96,19 +96,6 @@ pub fn scripts_of<S: Script>(
         scripts.push(script_of(alloc, script, before.saturating_add(1), turns)?)?;
     }
     Ok(scripts)
-}
-
-/// Starts this many processes from the last seat, and returns whether each call was done.
-pub fn spawn_from_last<R: Wait>(rt: &R, layer: &Layer, seats: &mut [Seat], count: u32) -> bool {
-    let Some(seat) = seats.last_mut() else {
-        return false;
-    };
-    for _ in 0..count {
-        if layer.call(rt, seat, spawn()).is_err() {
-            return false;
-        }
-    }
-    true
 }
 
 /// Drives the scripts, and the collector's turns, from seats that are lent.

@@ -1,6 +1,0 @@
-use Rattle.std.proofs.Common.{◌<◌}
-use Rattle.af_tests.proofs.order.come_while_there_is_room.Given as goal
-
--- The next number is new.
-abbrev pub invariant-loop-number : goal.invariant-loop-number
-invariant-loop-number l = l.values.last < l.number
