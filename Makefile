@@ -85,7 +85,6 @@ walks: build
 stress: build
 	$(need) cc
 	cd crates/af_tests && rt test
-	cd crates/scm_tests && rt test
 	tools/stress
 
 bench:

@@ -469,12 +469,13 @@ ok
 pid 1025
 """
 
-# As many files as may be live, one of them in flight. A pass looks at each, and three times at most: it goes on after a
-# slice of as many units as there are files, and ends with the third such slice.
+# As many files as may be live, one of them in flight. A pass looks at each, and three times at most: it continues after
+# a slice of as many units as there are files, and ends with the third such slice.
 FULL_PASS = (
     "".join(f"spawn 1000 1024\n{1_024 * f'{pid} open{chr(10)}'}" for pid in range(1, 64))
     + f"spawn 1000 1024\n64 pair stream\n{1_022 * f'64 open{chr(10)}'}64 send 0 m 0\n64 open\ncheck\nbegin\n"
-    + 3 * "slice 65536\n" + "slice 1\n"
+    + 3 * "slice 65536\n"
+    + "slice 1\n"
 )
 PASS = """sent 1
 EMFILE

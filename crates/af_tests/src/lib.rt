@@ -1,7 +1,9 @@
-//! The tests of the layer's crates, a module for each: what no clause says and no script shows.
+//! The tests of the crates, a module for each: what no clause says and no script shows.
 #![tactic(auto)]
 
 #[cfg(test)]
 mod layer;
+#[cfg(test)]
+mod race;
 #[cfg(test)]
 mod steps;

@@ -1,5 +1,4 @@
-//! Words and a script with the lines of scripts that say what they are, and that ample memory is
-//! enough.
+//! The scripts of a race: words and a script, with the lines of scripts that say what they are.
 use af_base::events::Event;
 use scm_lines::{Line, line_of};
 use scm_race::workload::{event_of_word, make_script};
@@ -84,13 +83,4 @@ fn drawn_script(rt: HostRuntime) -> Result<(), AllocError> {
     let script = make_script(rt.alloc(), 3, 4, 13, 7)?;
     has_drawn(&rt, &script);
     Ok(())
-}
-
-/// One allocation refused, the Nth: `tools/stress` refuses each in turn. The script has each kind:
-/// its events, a name, the bytes of a send and its numbers.
-#[test]
-fn one_refused(rt: HostRuntime) {
-    if make_script(rt.alloc(), 2, 4, 9, 8).is_err() {
-        assert!(rt; make_script(rt.alloc(), 2, 4, 9, 8).is_ok());
-    }
 }
