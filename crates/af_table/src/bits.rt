@@ -77,6 +77,25 @@ impl Bits {
         None
     }
 
+    /// Returns the least number that is not in the set, if it is below `end`. It compares with
+    /// `end` last, so a search past full words takes one comparison for each.
+    #[inline(always)]
+    pub fn first_zero(&self, end: u32) -> Option<u32>
+        requires { end ≤ MAX_NOFILE }
+        ensures found { IfSome result (λ n. is_taken self.now.words n ≡ false) }
+        ensures low { IfSome result (λ n. n < end) }
+        ensures least { IfSome result (λ n. (q : ℕ) → q < n → is_taken self.now.words q ≡ true) }
+        ensures none { IfNone result ((q : ℕ) → q < end → is_taken self.now.words q ≡ true) }
+    {
+        for i in 0..WORDS {
+            if let Some(bit) = place_from(self.words[i], 0, false) {
+                let n = u64::BITS * i as u32 + bit;
+                return if n < end { Some(n) } else { None };
+            }
+        }
+        None
+    }
+
     /// Returns one more than a number of the set, or 0: each number of the set below this one is
     /// below the answer. Looks at no word beyond this one's.
     pub fn end_below(&self, below: u32) -> u32

@@ -229,11 +229,11 @@ impl Process {
 
     /// Returns the lowest free descriptor, if one below its limit is free (open(2)).
     #[inline(always)]
-    #[tactic(auto, using(crate::proofs::FreeNumbers::free_lists))]
     pub fn lowest(&self) -> Option<Fd>
         ensures { result ≡ slice_get (free_numbers self.now.process) 0 }
     {
-        self.next_free(0)
+        let n = self.taken.first_zero(self.limit)?;
+        Some(Fd(n))
     }
 
     /// Returns the two lowest free descriptors, rising, if it has two.
