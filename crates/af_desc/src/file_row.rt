@@ -21,9 +21,12 @@ use af_queue::{Attached, Chain, Msg, Node, Queue, Taken, pool};
 use slab::Slab;
 use std::alloc::{AllocError, Global};
 
-/// The row of one file: what it is, its queue, its count, its mark, and whether it is dirty.
+/// The row of one file: what it is, its queue, its count, its mark, and whether it is dirty. The
+/// close of a plain file reads the first two fields alone: they lie side by side.
 #[derive(Drop)]
 pub struct FileRow {
+    /// How many places hold it.
+    pub count: Count,
     /// Its kind: a plain file, or a socket without its queue.
     pub kind: FileKind,
     /// The messages of its queue.
@@ -31,8 +34,6 @@ pub struct FileRow {
     /// Its position in the list of those whose readiness may have changed, counted from 1: a hint.
     /// It is 0 where the file is not in that list.
     pub dirty_at: u32,
-    /// How many places hold it.
-    pub count: Count,
     /// Its colour in a pass of the collector.
     pub mark: Mark,
 }
