@@ -18,17 +18,21 @@ use std::sync::Wait;
 /// budgets are within three times the files of its begin.
 const MOST_SLICES: u32 = 4;
 
+/// Returns the child of a fork, if the event is one and was done.
+fn child_of_fork(event: &Event, reply: &Reply) -> Option<Pid>
+    ensures { result ≡ child_of (event.now, reply.now) }
+{
+    match (event, reply) {
+        (Event::Proc(_, Step::Fork), Reply::Pid(child)) => Some(*child),
+        _ => None,
+    }
+}
+
 /// Returns the child of an answered fork, if this is one.
 fn child_of(pair: &EventReply) -> Option<Pid>
     ensures { result ≡ child_of pair.now }
 {
-    match *pair.event() {
-        Event::Proc(_, Step::Fork) => match *pair.reply() {
-            Reply::Pid(child) => Some(child),
-            _ => None,
-        },
-        _ => None,
-    }
+    child_of_fork(&pair.event(), &pair.reply())
 }
 
 /// Lets the children exit that were forked by these calls.
@@ -65,6 +69,14 @@ pub fn end_children<R: Wait, O: Origin>(
     Ok(())
 }
 
+/// Returns whether the last call from this seat continued a pass that is not done.
+fn is_working(seat: &Seat) -> bool {
+    match seat.list().last() {
+        Some(last) => matches!(*last.reply(), Reply::Working),
+        None => false,
+    }
+}
+
 /// Continues the pass that the collector began, if one runs, until it is done.
 pub fn end_pass<R: Wait, O: Origin>(
     rt: &R,
@@ -76,10 +88,7 @@ pub fn end_pass<R: Wait, O: Origin>(
 {
     'slices: for _ in 0..MOST_SLICES {
         layer.call(rt, main, Event::Slice(MAX_BUDGET))?;
-        let Some(last) = main.list().last() else {
-            break;
-        };
-        if !matches!(*last.reply(), Reply::Working) {
+        if !is_working(main) {
             break;
         }
     }
