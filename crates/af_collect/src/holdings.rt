@@ -15,9 +15,10 @@ use std::marker::Model;
 /// charged.
 pub struct Holdings {
     pub(crate) alloc: Global,
-    pub(crate) procs: Procs,
     pub(crate) files: Files,
     pub(crate) ledger: Ledger,
+    /// They have 2 KiB of hints, so they come last: the fields before them have short offsets.
+    pub(crate) procs: Procs,
 }
 
 /// It is written out, and not derived: so an owner's proof has one call where it drops holdings,

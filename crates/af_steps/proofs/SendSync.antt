@@ -109,7 +109,7 @@ files_send = search (sendable, files_inside) depth 10
 
 -- The fields of the holdings may go to another thread.
 holdings_inside : IsSend HoldingsInside.the_row
-holdings_inside = declared_send HoldingsInside.the_type (search (sendable, crosses) depth 20, (search (sendable, crosses, procs.the_send) depth 20, (files_send, (search (sendable, crosses, ledger.the_send) depth 20, tt))))
+holdings_inside = declared_send HoldingsInside.the_type (search (sendable, crosses) depth 20, (files_send, (search (sendable, crosses, ledger.the_send) depth 20, (search (sendable, crosses, procs.the_send) depth 20, tt))))
 
 -- So may the holdings.
 holdings_send : IsSend Holdings.the_row
