@@ -6,6 +6,7 @@ use Rattle.af_base.specs.Changes.{with_queue, with_socket}
 use Rattle.af_base.specs.World.{Message}
 use Rattle.af_desc.specs.FilesView.{FilesView, changed_queue, popped, without_file_ref}
 use Rattle.af_desc.specs.Holding.{IsPopped, without_popped}
+use Rattle.af_desc.specs.declared.contents.Popped.{Popped}
 use Rattle.af_collect.specs.declared.holdings.Holdings.TheInside.{Inside}
 use Rattle.af_collect.specs.Losing.{without_place}
 use Rattle.af_ledger.specs.Counted.{IsCounted}
@@ -19,7 +20,7 @@ use Rattle.af_collect.proofs.Exact.{exact-dequeued, exact-same, exact-shed, worl
 use Rattle.af_collect.proofs.Receives.{popped_queue}
 use Rattle.af_collect.proofs.LossOutcomes.{first-embryo, first-shed, lost-embryo, lost-message, none-popped}
 use Rattle.af_collect.proofs.holdings.Holdings.drop_place.Goals as goal
-use Rattle.af_collect.proofs.holdings.Holdings.drop_place.Goals.{in-Embryo, in-Message}
+use Rattle.af_collect.proofs.holdings.Holdings.drop_place.Goals.{in-Embryo, in-Message, In-Some}
 
 -- A message was popped, and its places were dropped.
 module _ (h : Inside) (s user : ℕ) (attached slice : List ℕ) (room : Bool) (p v : FilesView) (l : LedgerView) (pop : p ≡ changed_queue popped s room h.files) (of : slice ≡ attached) (kept : kept_of v.counts l ≡ without_refs (Queue user) slice (kept_of p.counts h.ledger)) (rest : v ≡ record p { counts = v.counts }) where
@@ -47,6 +48,14 @@ ends before now after mid f is changed view =
     let room = sym (ap (λ (s : HoldingsView). s.message_room) is) in
     is ∙ changed ∙ (λ i. record (view i) { world = without_place (view i).world f; message_room = room i })
 
+-- The clause on what was popped, at a variant.
+given : (c : goal.In-Some) (o : Popped) → c.in-Some.popped ≡ o → IsPopped (Some o) c.pop.new.attached.items (queue_at (the_view c.self.inside).world c.args.file.now) (backlog_at (the_view c.self.inside).world c.args.file.now)
+given c o is = subst (λ o. IsPopped (Some o) c.pop.new.attached.items (queue_at (the_view c.self.inside).world c.args.file.now) (backlog_at (the_view c.self.inside).world c.args.file.now)) is c.in-Some.ensures.popped
+
+-- The clause on the files that this left, at a variant.
+parted : (c : goal.In-Some) (o : Popped) → c.in-Some.popped ≡ o → c.pop.new.self ≡ changed_queue (without_popped (Some o)) c.args.file.now c.pop.new.self.message_room c.self.inside.files
+parted c o is = subst (λ o. c.pop.new.self ≡ changed_queue (without_popped (Some o)) c.args.file.now c.pop.new.self.message_room c.self.inside.files) is c.in-Some.ensures.rest
+
 -- A pop that gave nothing changed nothing.
 pub invariant_of-self : goal.invariant_of-self
 invariant_of-self c =
@@ -62,8 +71,8 @@ uncharge_message-requires c =
     let w = (the_view h).world in
     let s = c.args.file.now in
     let user = c.in-Message.user in
-    let first = subst (λ o. IsPopped (Some o) c.pop.new.attached.items (queue_at w s) (backlog_at w s)) c.in-Message.is c.in-Some.ensures.popped in
-    let rest = subst (λ o. c.pop.new.self ≡ changed_queue (without_popped (Some o)) s c.pop.new.self.message_room h.files) c.in-Message.is c.in-Some.ensures.rest in
+    let first = given (goal.at.uncharge_message-requires c).In-Some _ c.in-Message.is in
+    let rest = parted (goal.at.uncharge_message-requires c).In-Some _ c.in-Message.is in
     let m : Message = record { bytes = first.0; attached = c.pop.new.attached.items; user = user } in
     let x = first-shed w s m (drop 1 (queue_at w s)) c.self.invariant.within first.1 in
     let can = can-drop-all w s m (drop 1 (queue_at w s)) x.0 (kept_of h.files.counts h.ledger) x.1 x.2 c.self.invariant.agrees in
@@ -78,8 +87,8 @@ invariant_of-self-in-Message c =
     let s = c.args.file.now in
     let user = c.in-Message.user in
     let u = c.uncharge_message in
-    let first = subst (λ o. IsPopped (Some o) c.pop.new.attached.items (queue_at w s) (backlog_at w s)) c.in-Message.is c.in-Some.ensures.popped in
-    let rest = subst (λ o. c.pop.new.self ≡ changed_queue (without_popped (Some o)) s c.pop.new.self.message_room h.files) c.in-Message.is c.in-Some.ensures.rest in
+    let first = given (goal.at.invariant_of-self-in-Message c).In-Some _ c.in-Message.is in
+    let rest = parted (goal.at.invariant_of-self-in-Message c).In-Some _ c.in-Message.is in
     let m : Message = record { bytes = first.0; attached = c.pop.new.attached.items; user = user } in
     let x = first-shed w s m (drop 1 (queue_at w s)) c.self.invariant.within first.1 in
     exact-same _ _ _ _ (shed h s user m.attached c.as_slice-files.result.now _ c.pop.new.self u.new.files u.new.ledger rest c.as_slice-files.ensures u.ensures.kept u.ensures.rest) (dropped h s user m.attached c.as_slice-files.result.now _ c.pop.new.self u.new.files u.new.ledger rest c.as_slice-files.ensures u.ensures.kept u.ensures.rest)
@@ -92,8 +101,8 @@ drop_one-requires c =
     let w = (the_view h).world in
     let s = c.args.file.now in
     let n = c.in-Embryo.embryo in
-    let first = subst (λ o. IsPopped (Some o) c.pop.new.attached.items (queue_at w s) (backlog_at w s)) c.in-Embryo.is c.in-Some.ensures.popped in
-    let rest = subst (λ o. c.pop.new.self ≡ changed_queue (without_popped (Some o)) s c.pop.new.self.message_room h.files) c.in-Embryo.is c.in-Some.ensures.rest in
+    let first = given (goal.at.drop_one-requires c).In-Some _ c.in-Embryo.is in
+    let rest = parted (goal.at.drop_one-requires c).In-Some _ c.in-Embryo.is in
     let x = first-embryo w s n first.1 in
     subst (λ (v : FilesView). IsCounted Backlog (count_in_map v.counts n)) (sym rest) (can-drop-backlog w s n x.0 (kept_of h.files.counts h.ledger) x.1 x.2 c.self.invariant.agrees).0
 
@@ -104,8 +113,8 @@ invariant_of-self-in-Embryo c =
     let w = (the_view h).world in
     let s = c.args.file.now in
     let n = c.in-Embryo.embryo in
-    let first = subst (λ o. IsPopped (Some o) c.pop.new.attached.items (queue_at w s) (backlog_at w s)) c.in-Embryo.is c.in-Some.ensures.popped in
-    let rest = subst (λ o. c.pop.new.self ≡ changed_queue (without_popped (Some o)) s c.pop.new.self.message_room h.files) c.in-Embryo.is c.in-Some.ensures.rest in
+    let first = given (goal.at.invariant_of-self-in-Embryo c).In-Some _ c.in-Embryo.is in
+    let rest = parted (goal.at.invariant_of-self-in-Embryo c).In-Some _ c.in-Embryo.is in
     let x = first-embryo w s n first.1 in
     subst (λ fs. AreExact h.procs fs h.ledger) (sym (c.drop_one.ensures ∙ ap (without_file_ref Backlog n) rest)) (exact-dequeued w s n x.0 (kept_of h.files.counts h.ledger) x.1 x.2 c.self.invariant)
 
@@ -119,16 +128,16 @@ returns-clause-world c =
     elim c.match-popped.branch [
       | in-Message z ↦
           let u = z.uncharge_message in
-          let first = subst (λ o. IsPopped (Some o) attached (queue_at w s) (backlog_at w s)) z.in-Message.is c.in-Some.ensures.popped in
-          let rest = subst (λ o. c.pop.new.self ≡ changed_queue (without_popped (Some o)) s c.pop.new.self.message_room h.files) z.in-Message.is c.in-Some.ensures.rest in
+          let first = given (goal.at.returns-clause-world c).In-Some _ z.in-Message.is in
+          let rest = parted (goal.at.returns-clause-world c).In-Some _ z.in-Message.is in
           let gone = seen h s z.in-Message.user attached z.as_slice-files.result.now _ c.pop.new.self u.new.files u.new.ledger rest z.as_slice-files.ensures u.ensures.kept u.ensures.rest in
           let some : 0 < length (queue_at w s) = let long = ap length first.1 in omega (arith, long) in
           let lost = sym (lost-message w s some) in
           ends (the_view h) c.args.self.now c.match-popped.self _ s z.self-is (gone ∙ (λ i. record (the_view h) { world = lost i; message_room = u.new.files.message_room })) c.self.view_is
       | in-Embryo z ↦
           let n = z.in-Embryo.embryo in
-          let first = subst (λ o. IsPopped (Some o) attached (queue_at w s) (backlog_at w s)) z.in-Embryo.is c.in-Some.ensures.popped in
-          let rest = subst (λ o. c.pop.new.self ≡ changed_queue (without_popped (Some o)) s c.pop.new.self.message_room h.files) z.in-Embryo.is c.in-Some.ensures.rest in
+          let first = given (goal.at.returns-clause-world c).In-Some _ z.in-Embryo.is in
+          let rest = parted (goal.at.returns-clause-world c).In-Some _ z.in-Embryo.is in
           let gone = z.drop_one.ensures ∙ ap (without_file_ref Backlog n) rest in
           let world = ap (λ (v : FilesView). (the_view (record h { files = v })).world) gone ∙ sym (lost-embryo w s first.0) in
           ends (the_view h) c.args.self.now c.match-popped.self _ s z.self-is (λ i. record { world = world i; rows = h.procs.rows; message_room = z.drop_one.new.self.message_room; marks = ap (λ (v : FilesView). v.marks) gone i; since = ap (λ (v : FilesView). v.since) gone i }) c.self.view_is
