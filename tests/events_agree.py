@@ -6,7 +6,7 @@ in order. Compared with it are
 
 - the rows of the definition (crates/af_base/specs), which decides, and those of docs/DEFINITIONS.md;
 - the doc comments of the calls (crates/af_steps/src), the comments of include/jaywardrobe.h, and the table of CALLING.md;
-- the forms, keywords and versions of the script language (crates/scm_lines), the help text (crates/scm_command), and the
+- the forms, keywords and versions of the script language (crates/scm_lines), the help text (crates/scmgc), and the
   manual page (docs/man/scmgc.1);
 - the events that tools/plain_engine.py serves, and those that tools/walks draws, with the errors that these meet.
 
@@ -215,7 +215,7 @@ def later_steps() -> Dict[str, str]:
 
 
 def help_text() -> str:
-    found = re.search(r'OF_SCRIPTS: &str =\s*"([^"]*)"', text_of("crates/scm_command/src/task.rt"))
+    found = re.search(r'OF_SCRIPTS: &str =\s*"([^"]*)"', text_of("crates/scmgc/src/task.rt"))
     if not found:
         raise Unreadable("there is no OF_SCRIPTS")
     return found[1]
@@ -292,8 +292,8 @@ def comparisons(rows: Dict[str, Row]) -> List[Comparison]:
         ("crates/scm_lines/specs/Forms.antt", forms, lines),
         ("crates/scm_lines/src/keywords.rt", keywords, named),
         ("crates/scm_lines/specs/Versions.antt", later_steps, alike(later)),
-        ("crates/scm_command, version 2", helped, alike(later.values())),
-        ("crates/scm_command, examples", lambda: misnamed(lines), {}),
+        ("crates/scmgc, version 2", helped, alike(later.values())),
+        ("crates/scmgc, examples", lambda: misnamed(lines), {}),
         ("docs/man/scmgc.1, of a process", in_manual, of_process),
         (f"{LIST}, the replies", lambda: alike(first_cells("Reply | What it says")), replies),
         (f"{LIST}, the texts of reports", lambda: alike(first_cells("Line | Text")), reports),

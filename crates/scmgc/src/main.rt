@@ -1,9 +1,16 @@
 //! Runs scripts of events against the layer, from standard input to standard output, and lets
 //! workers race on it.
+//!
+//! `task` reads the command line, and `program` does what it asks for over any streams. `play`
+//! shows a script to its author. `main` has the streams and threads of the system.
 #![tactic(auto)]
 
-use scm_command::program::program;
-use scm_play::Style;
+mod play;
+mod program;
+mod task;
+
+use crate::play::Style;
+use crate::program::program;
 use scm_run::{RunFault, Watched};
 use std::alloc::AllocError;
 use std::env;

@@ -1,4 +1,0 @@
--- Lemmas.
-pub mod TaskWords
-pub mod CommandWords
-pub mod Numbers

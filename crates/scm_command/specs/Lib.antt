@@ -1,3 +1,0 @@
--- The tasks of the program, and its answers.
-pub mod Task
-pub mod Program

@@ -1,3 +1,0 @@
--- Lemmas.
-pub mod FirstLines
-pub mod PlayedLines

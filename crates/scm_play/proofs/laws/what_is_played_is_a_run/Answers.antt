@@ -1,5 +1,0 @@
-use Rattle.scm_play.proofs.PlayedLines.{run_of_played}
-use Rattle.scm_play.proofs.laws.what_is_played_is_a_run.Goals as goal
-
-pub returns : goal.returns
-returns c = run_of_played

@@ -1,7 +1,0 @@
--- The row so far.
-use Rattle.std.proofs.Common.{◌≡◌, ◌++◌, map, take}
-use Rattle.scm_play.specs.Display.{shown_byte}
-use Rattle.scm_play.proofs.show.push_line.Given as goal
-
-abbrev pub invariant-loop-byte : goal.invariant-loop-byte
-invariant-loop-byte l = l.shown.items ≡ l.fn.shown.items ++ map shown_byte (take l.byte-index l.bytes)

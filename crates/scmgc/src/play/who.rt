@@ -1,0 +1,66 @@
+//! The text of who holds what.
+
+use crate::play::holders::{HeldFile, Holder, push_places};
+use af_base::ids::Ino;
+use af_plain::garbage;
+use af_steps::Engine;
+use std::alloc::{AllocError, Global};
+
+/// Appends a place that holds a file.
+fn push_holder(text: &mut String, by: Holder) -> Result<(), AllocError> {
+    match by {
+        Holder::Descriptor(pid, fd) => write!(text, " pid {pid} fd {fd}"),
+        Holder::Queue(ino) => write!(text, " queue of {ino}"),
+        Holder::Backlog(ino) => write!(text, " backlog of {ino}"),
+    }
+}
+
+/// Appends the places that hold a file, with commas between them, and returns those of other files
+/// behind them.
+fn push_holders<'a>(
+    text: &mut String,
+    ino: Ino,
+    places: &'a [HeldFile],
+) -> Result<&'a [HeldFile], AllocError> {
+    let mut rest = places;
+    let mut comma = "";
+    while let [first, others @ ..] = rest
+        && first.ino == ino
+    {
+        text.push_str(comma)?;
+        push_holder(text, first.by)?;
+        comma = ",";
+        rest = others;
+    }
+    Ok(rest)
+}
+
+/// Appends the number of a file, and whether it is garbage.
+fn push_file(text: &mut String, ino: Ino, lost: &[Ino]) -> Result<(), AllocError> {
+    if lost.binary_search(&ino).is_ok() {
+        write!(text, "file {ino} (garbage):")
+    } else {
+        write!(text, "file {ino}:")
+    }
+}
+
+/// Lists the files of the engine's world by rising number, a line for each: its number, whether it
+/// is garbage, which no process can reach, and each place that holds it.
+///
+/// A place is a descriptor of a process, the queue of a socket that carries the file, or the
+/// backlog of a listener, if the file is an embryo. A file is listed once for each place. Fails
+/// only if memory for the text is refused.
+pub fn holders(alloc: Global, engine: &Engine) -> Result<Vec<u8>, AllocError> {
+    let listing = engine.listing()?;
+    let lost = garbage(alloc, &listing)?;
+    let mut places = Vec::new(alloc);
+    push_places(&mut places, listing.tables(), listing.files())?;
+    let mut text = String::new(alloc);
+    let mut rest = places.as_slice();
+    for file in listing.files() {
+        push_file(&mut text, file.ino, lost.as_slice())?;
+        rest = push_holders(&mut text, file.ino, rest)?;
+        text.push_str("\n")?;
+    }
+    Ok(text.into_bytes())
+}
