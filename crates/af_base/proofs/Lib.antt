@@ -45,3 +45,4 @@ pub mod GrowingLists
 pub mod PlaceLists
 pub mod ExactLists
 pub mod Readiness
+pub mod PlainLists

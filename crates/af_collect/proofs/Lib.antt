@@ -2,7 +2,6 @@
 pub mod Recounts
 pub mod Bounds
 pub mod Exact
-pub mod PlainLists
 pub mod CountChanges
 pub mod ProcessTables
 pub mod LossOutcomes
@@ -29,3 +28,4 @@ pub mod Receives
 pub mod LentProcesses
 pub mod Descriptors
 pub mod VisiblePass
+pub mod SendSync

@@ -4,3 +4,4 @@ pub mod TrackedTableView
 pub mod ToldLists
 pub mod ClearedMarks
 pub mod FilesInvariant
+pub mod SendSync

@@ -3,3 +3,4 @@ pub mod Rows
 pub mod Searches
 pub mod Values
 pub mod Parts
+pub mod SendSync

@@ -364,13 +364,6 @@ module _ {V : Type 0} (m : Map ℕ) (s : Slab (NumberedValue V)) (f key : ℕ) (
       values_then m m s (slab.with_value s key y) f key (Some key) (Some y) stays wrote (own m s h f key was) q
       ∙ ap (λ o. cond (nat_eq f q) (option_map (λ x. x.value) o) (map.get (values_of m s) q)) wrote.changed ∙ with_value (values_of m s) f y.value q)
 
-  -- Writing a value unchanged changes nothing.
-  pub write_same : y.value ≡ x.value → values_of m (slab.with_value s key y) ≡ values_of m s
-  write_same e = write_values ∙ ap (map.insert (values_of m s) f) e ∙ same _ _ (λ q. sym (with_value (values_of m s) f x.value q) ∙ by q (nat_eq f q) refl) where
-    by : (q : ℕ) (b : Bool) → nat_eq f q ≡ b → cond b (Some x.value) (map.get (values_of m s) q) ≡ map.get (values_of m s) q
-    by q true e = sym there ∙ ap (map.get (values_of m s)) (eqb-true f q e)
-    by q false e = refl
-
   -- There are as many values as before.
   pub write_len : slab.slab_len (slab.with_value s key y) ≡ slab.slab_len s
   write_len =

@@ -1,6 +1,6 @@
 use Rattle.std.proofs.Common.{◌≤◌, length, ap, arith}
 use Rattle.af_base.specs.declared.limits.TheConstants.{MAX_BACKLOG}
-use Rattle.af_collect.proofs.PlainLists.{held_listed}
+use Rattle.af_base.proofs.PlainLists.{held_listed}
 use Rattle.af_collect.proofs.listings.listed_socket.Goals as goal
 
 pub returns-clause-few : goal.returns-clause-few

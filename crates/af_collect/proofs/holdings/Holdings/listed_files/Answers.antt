@@ -11,7 +11,7 @@ use Rattle.af_base.specs.declared.limits.TheConstants.{MAX_FILES}
 use Rattle.af_base.proofs.Lookups.{some_same}
 use Rattle.af_collect.specs.HoldingsView.{HoldingsView}
 use Rattle.af_base.proofs.GrowingLists.{made_all, made_more}
-use Rattle.af_collect.proofs.PlainLists.{changed, entry, keyed-changed, keys-rise}
+use Rattle.af_base.proofs.PlainLists.{changed, entry, keyed-changed, keys-rise}
 use Rattle.af_base.proofs.MapWalks.{above, above-le, all_entries, fewer_above, next_entry, no_entry}
 use Rattle.af_collect.proofs.holdings.Holdings.listed_files.Goals as goal
 

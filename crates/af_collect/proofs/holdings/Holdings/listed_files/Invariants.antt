@@ -5,7 +5,7 @@ use Rattle.af_base.specs.Bare.{bare_file}
 use Rattle.af_base.specs.Listing.{file_of}
 use Rattle.af_base.specs.Places.{contents}
 use Rattle.af_base.specs.declared.limits.TheConstants.{MAX_BACKLOG, MAX_FILES, MAX_MESSAGES, SCM_MAX_FD}
-use Rattle.af_collect.proofs.PlainLists.{entry, changed}
+use Rattle.af_base.proofs.PlainLists.{entry, changed}
 use Rattle.af_base.proofs.MapWalks.{above}
 use Rattle.af_collect.proofs.holdings.Holdings.listed_files.Given as goal
 

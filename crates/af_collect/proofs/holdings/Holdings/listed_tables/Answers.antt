@@ -13,7 +13,7 @@ use Rattle.af_base.specs.Refusals.{no_process}
 use Rattle.af_base.specs.declared.limits.TheConstants.{MAX_PROCESSES}
 use Rattle.af_collect.specs.HoldingsView.{HoldingsView}
 use Rattle.af_base.proofs.GrowingLists.{made_all, made_more}
-use Rattle.af_collect.proofs.PlainLists.{changed, entry, keyed-changed, keys-rise, looked, looked_entries}
+use Rattle.af_base.proofs.PlainLists.{changed, entry, keyed-changed, keys-rise, looked, looked_entries}
 use Rattle.af_collect.proofs.holdings.Holdings.listed_tables.Goals as goal
 
 -- The pids are those of the world.

@@ -4,7 +4,7 @@ use Rattle.af_base.specs.Bare.{bare_process}
 use Rattle.af_base.specs.Listing.{IsRisingTable, process_of}
 use Rattle.af_base.specs.Refusals.{no_process}
 use Rattle.af_base.specs.declared.limits.TheConstants.{MAX_NOFILE, MAX_PROCESSES}
-use Rattle.af_collect.proofs.PlainLists.{entry, looked}
+use Rattle.af_base.proofs.PlainLists.{entry, looked}
 use Rattle.af_collect.proofs.holdings.Holdings.listed_tables.Given as goal
 
 abbrev pub invariant-loop-pid : goal.invariant-loop-pid
