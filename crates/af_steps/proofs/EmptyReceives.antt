@@ -17,7 +17,7 @@ use Rattle.af_base.specs.Whole.{IsSound}
 use Rattle.af_base.specs.World.{Process, Socket, World}
 use Rattle.af_base.proofs.SoundSteps.{same-with_queue}
 use Rattle.af_steps.specs.Outcome.{Does}
-use Rattle.af_steps.specs.Found.{HasSocket}
+use Rattle.af_steps.specs.Found.{HasEnd, HasSocket}
 use Rattle.af_steps.proofs.LookupRows.{after-socket, file-is, ino-is, socket-is}
 use Rattle.af_steps.proofs.Outcomes.{does-nothing}
 
@@ -26,11 +26,7 @@ pub no-pairs : {A B : Type 0} (xs : List A) → zip {X = B} xs [] ≡ []
 no-pairs [] = refl
 no-pairs (x ∷ xs) = refl
 
-module _ {inside old : Machine} (shown : inside ≡ old) {p n f : ℕ} {q : Process} {x : Socket} (has : HasSocket inside.world p q n f x) (bytes fds : ℕ) (given : first_fit (on_receive x bytes) ≡ None) (none : length x.queue ≡ 0) (sound : IsSound inside.world) where
-  -- The world that the engine has inside.
-  abbrev w : World
-  w = inside.world
-
+module _ {w : World} {p n f : ℕ} {q : Process} {x : Socket} (has : HasSocket w p q n f x) (bytes fds : ℕ) (given : first_fit (on_receive x bytes) ≡ None) (none : length x.queue ≡ 0) where
   -- Its own tests are those that are left.
   fits : refusal w p (step.Recv n bytes fds) ≡ None
   fits = after-socket has (λ r look s. on_receive s bytes) ∙ given
@@ -60,16 +56,22 @@ module _ {inside old : Machine} (shown : inside ≡ old) {p n f : ℕ} {q : Proc
       ∙ ap (λ l. install_all (with_queue w f []) p l) (no-pairs (lowest_free (min 0 fds) (process_at w p)))
       ∙ ap (λ l. with_queue w f l) (sym empty) ∙ same-with_queue w f x (file-is w f x has.found)
 
-  -- A receive was done.
-  pub recv-end : Does old p (step.Recv n bytes fds) reply.End old
-  recv-end = does-nothing shown p (step.Recv n bytes fds) reply.End fits answered_end ended sound
-
   -- Nothing is there to be seen, and nothing changes.
   unseen : effect w p (step.Peek n bytes fds) ≡ w
   unseen =
       (λ i. install_all w p (zip (lowest_free (min (length (none_taken i).attached) fds) (process_at w p)) (none_taken i).attached))
       ∙ ap (λ l. install_all w p l) (no-pairs (lowest_free (min 0 fds) (process_at w p)))
 
+  -- So the end is there.
+  pub has-end : HasEnd w p n bytes fds
+  has-end = record { fits = fits; answered = answered_end; received = ended; peeked = unseen }
+
+-- An engine that shows `old`, and has this inside.
+module _ {inside old : Machine} (shown : inside ≡ old) {p n bytes fds : ℕ} (has : HasEnd inside.world p n bytes fds) (sound : IsSound inside.world) where
+  -- A receive was done.
+  pub recv-end : Does old p (step.Recv n bytes fds) reply.End old
+  recv-end = does-nothing shown p (step.Recv n bytes fds) reply.End has.fits has.answered has.received sound
+
   -- A peek was done.
   pub peek-end : Does old p (step.Peek n bytes fds) reply.End old
-  peek-end = does-nothing shown p (step.Peek n bytes fds) reply.End fits answered_end unseen sound
+  peek-end = does-nothing shown p (step.Peek n bytes fds) reply.End has.fits has.answered has.peeked sound

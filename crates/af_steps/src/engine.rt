@@ -88,11 +88,11 @@ impl Engine {
                 uid,
                 nofile,
                 privileged,
-            } => reply_of(self.spawn(*uid, *nofile, *privileged)),
+            } => self.spawn_reply(*uid, *nofile, *privileged),
             Event::Proc(pid, step) => self.step_of(*pid, step),
             Event::Begin => reply_of(self.begin().map(Reply::Started)),
             Event::Slice(budget) => reply_of(self.slice(*budget)),
-            Event::Pass => reply_of(self.pass()),
+            Event::Pass => self.pass_reply(),
         }
     }
 

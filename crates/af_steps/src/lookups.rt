@@ -4,6 +4,7 @@ ghost use Rattle.std.specs.FinMap as map;
 ghost use Rattle.af_base.specs.Refusals.{at_socket, first_fit, is_full, on_process, process_at};
 ghost use Rattle.af_base.specs.Refusals.{refusal};
 ghost use Rattle.af_base.specs.Table.{free_numbers};
+ghost use Rattle.af_collect.specs.StoreView.{room_at};
 ghost use Rattle.af_steps.specs.Found.{HasProcess, HasSocket};
 
 use af_base::errno::Errno;
@@ -37,6 +38,7 @@ pub fn descriptor_for_file(store: &Store, pid: Pid) -> Result<Fd, Errno>
 pub fn socket_on(store: &Store, pid: Pid, on: Fd) -> Result<(&Process, FileRef, Socket<'_>), Errno>
     ensures found { IfOk result (λ found.
         HasSocket store.now.world pid found.0.now.process on found.1 found.2) }
+    ensures row { IfOk result (λ found. room_at store.now pid ≡ found.0.now.row) }
     ensures refused { IfErr result (λ e. first_fit (on_process
         (map.get store.now.world.processes pid) ++ at_socket store.now.world pid on) ≡ Some e) }
 {

@@ -1,15 +1,16 @@
 //! Steps that send and receive.
-ghost use Rattle.std.specs.Prelude.{◌≡◌, ◌≤◌, [], Some, None, IfOk, IfErr, OnOk, length};
-ghost use Rattle.std.specs.Prelude.{IfNone, IfSome, filter_map, is_none, nat_lt};
+ghost use Rattle.std.specs.Prelude.{◌≡◌, ◌≤◌, ◌<◌, [], Some, None, IfOk, IfErr, OnOk, length};
+ghost use Rattle.std.specs.Prelude.{IfNone, IfSome, filter_map, nat_le, nat_lt};
 ghost use Rattle.std.specs.FinMap as map;
 ghost use Rattle.af_base.specs.Changes.{push_message};
 ghost use Rattle.af_base.specs.Pass.{SamePass};
 ghost use Rattle.af_base.specs.Refusals.{first_fit, on_parts, on_peer, on_receive, peer_of};
-ghost use Rattle.af_base.specs.Refusals.{refusal};
+ghost use Rattle.af_base.specs.Refusals.{process_at, refusal};
 ghost use Rattle.af_base.specs.Steps.{effect};
 ghost use Rattle.af_base.specs.Unheld.{Settles};
-ghost use Rattle.af_steps.specs.Found.{HasMessage};
-ghost use Rattle.af_steps.specs.Outcome.{Does, Refuses, got_reply};
+ghost use Rattle.af_collect.specs.StoreView.{room_at};
+ghost use Rattle.af_steps.specs.Found.{HasEnd, HasMessage};
+ghost use Rattle.af_steps.specs.Outcome.{Does, Refuses, got_reply, step_error};
 ghost use Rattle.af_steps.specs.Posted.{HasRoom, message_in};
 
 use crate::engine::Engine;
@@ -19,6 +20,7 @@ use af_base::events::{Reply, State, Step};
 use af_base::ids::{Fd, FileRef, Pid, Uid};
 use af_base::items::{Bytes, Fds, Items};
 use af_base::limits::{MAX_BYTES, MAX_MESSAGES, SCM_MAX_FD};
+use af_collect::Store;
 use af_desc::Socket;
 use af_queue::{Attached, Msg, Taken};
 use af_table::Process;
@@ -69,6 +71,14 @@ struct Envelope {
     peer: FileRef,
     attached: Attached,
     user: Uid,
+}
+
+/// The socket that a receive takes from, and whether the process has room for each descriptor
+/// below its limit.
+#[derive(Drop)]
+struct Source {
+    file: FileRef,
+    has_room: bool,
 }
 
 impl Engine {
@@ -161,42 +171,6 @@ impl Engine {
         Ok(count)
     }
 
-    /// Returns the socket that a receive or a peek takes from, and fills an empty list with the
-    /// free descriptors at which it installs files; `None` where nothing is left to receive, and
-    /// the peer was freed. The refusals are those of `recv`.
-    #[inline(always)]
-    fn prepare_receive(
-        &self,
-        pid: Pid,
-        on: Fd,
-        max_bytes: u32,
-        max_fds: u32,
-        fds: &mut Fds,
-    ) -> Result<Option<FileRef>, Errno>
-        requires { fds.old ≡ [] }
-        ensures fits { OnOk result
-            (refusal self.now.world pid (Step.Recv on max_bytes max_fds) ≡ None) }
-        ensures message { IfOk result (λ found. IfSome found (λ r.
-            HasMessage self.now.world pid on max_bytes max_fds r fds.new)) }
-        ensures received_end { IfOk result (λ found. IfNone found
-            (Does self.now pid (Step.Recv on max_bytes max_fds) Reply.End self.now)) }
-        ensures peeked_end { IfOk result (λ found. IfNone found
-            (Does self.now pid (Step.Peek on max_bytes max_fds) Reply.End self.now)) }
-        ensures refused { IfErr result (λ e.
-            Refuses self.now pid (Step.Recv on max_bytes max_fds) e self.now) }
-    {
-        let (process, file, socket) = socket_on(&self.store, pid, on)?;
-        check_receive(&socket, max_bytes)?;
-        if socket.queue().len() == 0 {
-            return Ok(None);
-        }
-        let files = socket
-            .queue()
-            .files_in_receive(socket.kind(), max_bytes as usize);
-        process.lowest_free(files.min(max_fds as usize), fds)?;
-        Ok(Some(file))
-    }
-
     /// Receives at most this many bytes and descriptors (recvmsg(2)). A packet's bytes beyond
     /// `max_bytes` are dropped (recvmsg(2), MSG_TRUNC); a stream's wait for the next receive.
     /// Descriptors beyond `max_fds` or the free numbers are closed (unix(7), SCM_RIGHTS;
@@ -219,14 +193,16 @@ impl Engine {
     {
         let mut fds = Fds::new(self.alloc);
         let mut taken = Taken::nothing(self.alloc);
-        let Some(file) = self.prepare_receive(pid, on, max_bytes, max_fds, &mut fds)? else {
+        let Some(source) = prepare_receive(&self.store, pid, on, max_bytes, max_fds, &mut fds)?
+        else {
             return Ok(Received::End);
         };
         let (max, numbers) = (max_bytes as usize, fds.as_slice());
         // A file in a table is no garbage of a running pass.
         self.store.lemma_is_spared();
-        self.store.room_for(pid, numbers.len())?;
-        self.store.take_msg(&file, max, pid, numbers, &mut taken)?;
+        make_room(&mut self.store, &source, pid, numbers.len())?;
+        self.store
+            .take_msg(&source.file, max, pid, numbers, &mut taken)?;
         self.store.release();
         Ok(receive_answer(taken, fds))
     }
@@ -251,14 +227,15 @@ impl Engine {
             Refuses self.old pid (Step.Peek on max_bytes max_fds) e self.new) }
     {
         let mut fds = Fds::new(self.alloc);
-        let Some(file) = self.prepare_receive(pid, on, max_bytes, max_fds, &mut fds)? else {
+        let Some(source) = prepare_receive(&self.store, pid, on, max_bytes, max_fds, &mut fds)?
+        else {
             return Ok(Received::End);
         };
         let (max, numbers) = (max_bytes as usize, fds.as_slice());
         // A file in a table is no garbage of a running pass.
         self.store.lemma_is_spared();
-        self.store.room_for(pid, numbers.len())?;
-        let seen = self.store.peek_msg(&file, max, pid, numbers)?;
+        make_room(&mut self.store, &source, pid, numbers.len())?;
+        let seen = self.store.peek_msg(&source.file, max, pid, numbers)?;
         self.store.release();
         Ok(receive_answer(seen, fds))
     }
@@ -325,6 +302,63 @@ fn peer_of(socket: &Socket) -> Result<FileRef, Errno>
         State::HungUp => Err(Errno::EPIPE),
         _ => Err(Errno::ENOTCONN),
     }
+}
+
+/// Returns the socket that a receive or a peek takes from, and fills an empty list with the free
+/// descriptors at which it installs files; `None` where nothing is left to receive, and the peer
+/// was freed. The refusals are those of `recv`.
+#[inline(always)]
+fn prepare_receive(
+    store: &Store,
+    pid: Pid,
+    on: Fd,
+    max_bytes: u32,
+    max_fds: u32,
+    fds: &mut Fds,
+) -> Result<Option<Source>, Errno>
+    requires { fds.old ≡ [] }
+    ensures fits { OnOk result
+        (refusal store.now.world pid (Step.Recv on max_bytes max_fds) ≡ None) }
+    ensures message { IfOk result (λ found. IfSome found (λ s.
+        HasMessage store.now.world pid on max_bytes max_fds s.file fds.new)) }
+    ensures room { IfOk result (λ found. IfSome found (λ s. s.has_room
+        ≡ nat_le (process_at store.now.world pid).limit (room_at store.now pid))) }
+    ensures ended { IfOk result (λ found. IfNone found
+        (HasEnd store.now.world pid on max_bytes max_fds)) }
+    ensures refused { IfErr result (λ e.
+        step_error store.now.world pid (Step.Recv on max_bytes max_fds) ≡ Some e) }
+{
+    let (process, file, socket) = socket_on(store, pid, on)?;
+    check_receive(&socket, max_bytes)?;
+    if socket.queue().len() == 0 {
+        return Ok(None);
+    }
+    let files = socket
+        .queue()
+        .files_in_receive(socket.kind(), max_bytes as usize);
+    process.lowest_free(files.min(max_fds as usize), fds)?;
+    Ok(Some(Source {
+        file,
+        has_room: process.has_room(),
+    }))
+}
+
+/// Reserves room to install this many descriptors of the process that receives, if there is none.
+/// No process can see a change, also on an error.
+#[inline(always)]
+fn make_room(store: &mut Store, source: &Source, pid: Pid, count: usize) -> Result<(), AllocError>
+    requires { source.now.has_room
+        ≡ nat_le (process_at store.old.world pid).limit (room_at store.old pid) }
+    ensures world { store.new.world ≡ store.old.world }
+    ensures pass { store.new.pass ≡ store.old.pass }
+    ensures since { store.new.since ≡ store.old.since }
+    ensures row { OnOk result
+        (0 < count → (process_at store.old.world pid).limit ≤ room_at store.new pid) }
+{
+    if source.has_room {
+        return Ok(());
+    }
+    store.room_for(pid, count)
 }
 
 /// Returns whether this many bytes can be received from the socket, or why not.

@@ -1,14 +1,31 @@
-//! Steps that answer a number or a message, each with its reply. Each is a function of its own:
-//! the compiler zeroes a function's answers at its start, also those of steps that it does not do.
+//! Events that answer a number or a message, each with its reply. Each is a function of its own:
+//! the compiler zeroes a function's answers at its start, also those of events that it does not do.
 ghost use Rattle.af_base.specs.declared.events.Step.TheVariants.{Accept, Dup, Dup2, Fork, Open};
 ghost use Rattle.af_base.specs.declared.events.Step.TheVariants.{Pair, Peek, Recv, Send, Socket};
+ghost use Rattle.af_base.specs.Run.{Step};
 ghost use Rattle.af_steps.specs.Outcome.{Answers};
 
 use crate::engine::{Engine, reply_of};
-use af_base::events::{Reply, SockType};
-use af_base::ids::{Fd, Pid};
+use af_base::events::{Event, Reply, SockType};
+use af_base::ids::{Fd, Pid, Uid};
 
 impl Engine {
+    /// Starts a process.
+    #[inline(always)]
+    pub(crate) fn spawn_reply(&mut self, uid: Uid, nofile: u32, privileged: bool) -> Reply
+        ensures { Step self.old (Event.Spawn uid nofile privileged) result self.new }
+    {
+        reply_of(self.spawn(uid, nofile, privileged))
+    }
+
+    /// Makes a whole pass.
+    #[inline(always)]
+    pub(crate) fn pass_reply(&mut self) -> Reply
+        ensures { Step self.old Event.Pass result self.new }
+    {
+        reply_of(self.pass())
+    }
+
     /// Opens a plain file.
     #[inline(always)]
     pub(crate) fn open_reply(&mut self, pid: Pid) -> Reply

@@ -1,6 +1,7 @@
 //! A process with its table.
 ghost use Rattle.std.specs.Prelude.{◌≡◌, ℕ, ◌+◌, ◌-◌, ◌≤◌, ◌<◌, [], ◌∷◌, length, slice_get, IfSome};
-ghost use Rattle.std.specs.Prelude.{IsTrue, IfNone, IfOk, OnOk, OnErr, IsOk, None, false, true};
+ghost use Rattle.std.specs.Prelude.{IsTrue, IfNone, IfOk, OnOk, OnErr, IsOk, None, false, nat_le};
+ghost use Rattle.std.specs.Prelude.{true};
 ghost use Rattle.std.specs.FinMap as map;
 ghost use Rattle.af_base.specs.Changes.{installed, limited, taken_out};
 ghost use Rattle.af_base.specs.Table.{free_numbers, lowest_free};
@@ -134,6 +135,14 @@ impl Process {
         Some(slot.duplicate())
     }
 
+    /// Returns whether it has room for each descriptor below the limit.
+    #[inline(always)]
+    pub fn has_room(&self) -> bool
+        ensures { result ≡ nat_le self.now.process.limit self.now.row }
+    {
+        self.slots.len() >= self.limit as usize
+    }
+
     /// Makes room for each descriptor below the limit, and adds none above it.
     #[inline(always)]
     pub fn make_room(&mut self) -> Result<(), AllocError>
@@ -144,7 +153,7 @@ impl Process {
         ensures succeeds { self.old.process.limit ≤ self.old.row → IsOk result }
         ensures most { self.old.row < self.new.row → self.new.row ≤ self.old.process.limit }
     {
-        if self.slots.len() >= self.limit as usize {
+        if self.has_room() {
             return Ok(());
         }
         self.lengthen()
