@@ -2,6 +2,7 @@
 ghost use Rattle.std.specs.Prelude.{◌≡◌, ◌≤◌, ◌<◌, [], IfOk, length, drop, take, nat_lt};
 ghost use Rattle.smallvec.specs.SmallVec.{small_vec_len};
 ghost use Rattle.af_base.specs.Take.{has_files};
+ghost use Rattle.af_queue.specs.TakenView.{nothing_received};
 
 use crate::taken::Taken;
 use af_base::ids::{FileRef, Uid};
@@ -157,6 +158,7 @@ impl Msg {
     /// most this many. Takes no memory.
     #[inline(always)]
     pub(crate) fn give(self, max: usize, taken: &mut Taken)
+        requires empty { taken.old ≡ nothing_received }
         ensures { taken.new ≡ record {
           message = record self { bytes = take max self.bytes };
           trunc = nat_lt max (length self.bytes);
@@ -169,9 +171,11 @@ impl Msg {
             user,
             attached,
         } = self;
-        let nothing = mem::replace(taken, Taken::new(bytes, attached, user, len > max));
-        // To drop an empty result would test each of its lists.
-        mem::forget(nothing);
+        // A list without files stays where it is. The test also has the compiler move it by words.
+        if !attached.is_empty() {
+            taken.put_files(attached);
+        }
+        taken.put_bytes(bytes, user, len > max);
         taken.keep_bytes(begin as usize, len.min(max));
     }
 }

@@ -10,6 +10,7 @@ use af_base::limits::SCM_MAX_FD;
 use smallvec::SmallVec;
 use std::alloc::{AllocError, Global};
 use std::marker::Model;
+use std::mem;
 
 /// The result of a receive: a message of its own, and whether bytes were dropped.
 #[derive(Drop)]
@@ -84,6 +85,34 @@ impl Taken {
         } }
     {
         self.bytes.keep(from, count);
+    }
+
+    /// Sets the bytes of a result that has none, who sent them, and whether others were dropped.
+    #[inline(always)]
+    pub(crate) fn put_bytes(&mut self, bytes: Bytes, user: Uid, trunc: bool)
+        requires { self.old.message.bytes ≡ [] }
+        ensures { self.new ≡ record {
+          message = record self.old.message { bytes = bytes; user = user };
+          trunc = trunc;
+        } }
+    {
+        // To drop an empty list would test whether it has memory.
+        mem::forget(mem::replace(&mut self.bytes, bytes));
+        self.user = user;
+        self.trunc = trunc;
+    }
+
+    /// Sets the files of a result that has none.
+    #[inline(always)]
+    pub(crate) fn put_files(&mut self, attached: Attached)
+        requires none { self.old.message.attached ≡ [] }
+        requires few { small_vec_len attached ≤ SCM_MAX_FD }
+        ensures { self.new ≡ record self.old {
+          message = record self.old.message { attached = attached.items };
+        } }
+    {
+        // As for the bytes.
+        mem::forget(mem::replace(&mut self.attached, attached));
     }
 
     /// Sets its bytes.
