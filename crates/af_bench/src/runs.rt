@@ -1,4 +1,5 @@
 //! Runs, and how long they take.
+ghost use Rattle.std.specs.Prelude.{◌<◌, IfSome};
 
 use std::io::{self, Print};
 use std::time::{Clock, Instant};
@@ -10,12 +11,34 @@ pub struct Runs {
     pub count: usize,
 }
 
+/// How many events are done in a round, and how many rounds make a run.
+#[derive(Clone, Copy)]
+pub struct Rounds {
+    pub events: usize,
+    pub count: usize,
+}
+
 impl Runs {
     /// Returns the runs that these words name.
     pub fn of(events: &str, count: &str) -> Option<Runs> {
         Some(Runs {
             events: events.parse().ok()?,
             count: count.parse().ok()?,
+        })
+    }
+
+    /// Returns the rounds of a run over this many events. A run does a short list over and over,
+    /// and the next part of a long one. Returns `None` where that does not come out even.
+    pub fn rounds(&self, events: usize) -> Option<Rounds>
+        ensures some { IfSome result (λ rounds. 0 < rounds.events) }
+    {
+        let round = self.events.min(events);
+        if round == 0 || self.events % round != 0 || events % round != 0 {
+            return None;
+        }
+        Some(Rounds {
+            events: round,
+            count: self.events / round,
         })
     }
 }

@@ -10,8 +10,6 @@ use af_steps::Engine;
 use scm_lines::{Line, LineFault, line_of};
 use std::alloc::{AllocError, Global};
 use std::io;
-use std::iter::Cycle;
-use std::slice::Iter;
 use std::str::Lines;
 use std::time::Instant;
 
@@ -77,21 +75,28 @@ fn is_done(engine: &mut Engine, event: &Event) -> bool {
 
 /// Does these events over and over, and prints what each run took.
 fn measure(rt: &HostRuntime, engine: &mut Engine, events: &[Event], runs: Runs) -> io::Result<()> {
-    let mut round = events.iter().cycle();
+    let Some(rounds) = runs.rounds(events.len()) else {
+        return Err(io::Error::other("runs and events do not come out even"));
+    };
     let mut times = Vec::new(rt.alloc());
-    for _ in 0..runs.count {
+    for events in events.chunks_exact(rounds.events).cycle().take(runs.count) {
         let start = Instant::now(rt)?;
-        let is_done = are_done(engine, &mut round, runs.events);
+        let is_done = are_done(engine, events, rounds.count);
         times.push(time_since(rt, start, is_done)?)?;
     }
     print_times(rt, times.as_slice())
 }
 
-/// Does this many events, and returns whether none was refused. Stops at the first that is.
-fn are_done(engine: &mut Engine, round: &mut Cycle<Iter<'_, Event>>, events: usize) -> bool {
-    for event in round.take(events) {
-        if !is_done(engine, event) {
-            return false;
+/// Does these events this many times over, and returns whether none was refused. Stops at the first
+/// that is.
+// It is kept apart, so that its loop has all registers.
+#[inline(never)]
+fn are_done(engine: &mut Engine, events: &[Event], rounds: usize) -> bool {
+    for _ in 0..rounds {
+        for event in events {
+            if !is_done(engine, event) {
+                return false;
+            }
         }
     }
     true
