@@ -1,5 +1,5 @@
 -- The outcome of a typed call, told in few words, is a step of the machine.
-use Rattle.std.proofs.Common.{◌≡◌, ℕ, Bool, sym, subst}
+use Rattle.std.proofs.Common.{◌≡◌, ℕ, sym, subst}
 use Rattle.std.specs.Prelude.{Result, Ok, Err, IfErr, IfOk}
 use Rattle.af_base.specs.declared.errno.Errno.{Errno}
 use Rattle.af_base.specs.declared.events.Event.{Event}
@@ -7,13 +7,12 @@ use Rattle.af_base.specs.declared.events.Event.TheVariants as event
 use Rattle.af_base.specs.declared.events.Step.{Step}
 use Rattle.af_base.specs.Pass.{Machine}
 use Rattle.af_base.specs.Run as run
-use Rattle.af_steps.specs.Outcome.{Does, Refuses, RefusesStart, Starts}
+use Rattle.af_steps.specs.Outcome.{Does, Refuses}
 use Rattle.af_steps.proofs.FoldedReplies.{does-step, refuses-step}
 use Rattle.af_layer.specs.declared.short.ShortEvent.{ShortEvent}
 use Rattle.af_layer.specs.declared.short.ShortReply.{ShortReply}
 use Rattle.af_layer.specs.declared.short.ShortReply.TheVariants as answered
 use Rattle.af_layer.specs.Short.{event_of, reply_of}
-use Rattle.af_layer.proofs.Starts.{refuses-start, starts-step}
 
 module _ (old new : Machine) where
   -- A step stays one where its event and its reply are replaced by equal ones.
@@ -25,9 +24,3 @@ module _ (old new : Machine) where
       → IfOk o (λ a. r ≡ tells a) → IfErr o (λ e. r ≡ answered.Refused e) → run.Step old (event_of x) (reply_of r) new
   short_step x p s is (Ok a) tells r done refused ok err = told-step x (event.Proc p s) r (tells a) is ok (does-step old p s new (reply_of (tells a)) done)
   short_step x p s is (Err e) tells r done refused ok err = told-step x (event.Proc p s) r (answered.Refused e) is err (refuses-step old p s new e refused)
-
-  -- A call that starts a process.
-  pub short_start : (x : ShortEvent) (uid nofile : ℕ) (privileged : Bool) → event_of x ≡ event.Spawn uid nofile privileged → (o : Result ℕ Errno) (r : ShortReply) → IfOk o (λ p. Starts old uid nofile privileged p new) → IfErr o (λ e. RefusesStart old nofile e new)
-      → IfOk o (λ p. r ≡ answered.Pid p) → IfErr o (λ e. r ≡ answered.Refused e) → run.Step old (event_of x) (reply_of r) new
-  short_start x uid nofile privileged is (Ok p) r done refused ok err = told-step x (event.Spawn uid nofile privileged) r (answered.Pid p) is ok (starts-step old uid nofile privileged new p done)
-  short_start x uid nofile privileged is (Err e) r done refused ok err = told-step x (event.Spawn uid nofile privileged) r (answered.Refused e) is err (refuses-start old uid nofile privileged new e refused)

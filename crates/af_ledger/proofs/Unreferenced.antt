@@ -1,9 +1,9 @@
 -- The list of the unreferenced files, as places come and go.
 use Rattle.std.proofs.Common.{◌≡◌, ◌<◌, ℕ, ◌+◌, ◌-◌, true, false, List, [], ◌∷◌, ◌++◌, length, refl, sym, ap, ◌∙◌, nat_eq, arith}
-use Rattle.std.specs.Prelude.{Option, Some, None, IsSome, is_some, unwrap_or}
+use Rattle.std.specs.Prelude.{Option, Some, None, IsSome, unwrap_or}
 use Rattle.std.specs.FinMap as map
 use Rattle.std.specs.Option.{option_map_or}
-use Rattle.std.proofs.lemmas.Bool.{eq-eqb, eqb-true, false≢true}
+use Rattle.std.proofs.lemmas.Bool.{eq-eqb, eqb-true}
 use Rattle.af_base.specs.Counts.{count_in, one}
 use Rattle.af_base.specs.World.{Map}
 use Rattle.af_base.proofs.ExactLists.{just-pushed, just-same, just-struck}
@@ -39,13 +39,6 @@ counted-tabled (Queue u) c h = h
 counted-tabled Backlog c h = h
 
 module _ (m n : Map CountView) (fs : List ℕ) (k : ℕ) (h : AreUnreferenced m fs) where
-  -- An unknown file that is entered is unreferenced, and there is room for it.
-  pub entered-pushed : n ≡ map.insert m k uncounted → map.contains_key m k ≡ false → AreUnreferenced n (fs ++ k ∷ []) × (length fs < map.len n)
-  entered-pushed is new = just-pushed (λ c. nat_eq (places_in c) 0) m n fs k h uncounted is refl (by (map.get m k) new) where
-    by : (o : Option CountView) → is_some o ≡ false → option_map_or (λ c. nat_eq (places_in c) 0) o false ≡ false
-    by (Some c) e = absurd (false≢true (sym e))
-    by None e = refl
-
   module _ (p : Place) where
     module _ (is : n ≡ map.insert m k (more p (count_in_map m k))) where
       -- With its first place a file is no longer unreferenced.

@@ -181,13 +181,6 @@ module _ {T : Type 0} (m n : Machine) (values : Map T) (last p fd : ℕ) (h : Ar
     ];
   }
 
--- The next number carries nothing yet.
-pub next-free : {T : Type 0} (m : Machine) (values : Map T) (last : ℕ) → AreOwned m values last → map.contains_key values m.world.next_ino ≡ false
-next-free m values last h = elim (cases_Bool (map.contains_key values m.world.next_ino)) [
-  | inl there ↦ let low = h.numbered m.world.next_ino there in absurd (omega (arith, low))
-  | inr none ↦ none
-]
-
 -- Another value is written behind a file that carries one.
 pub owned-written : {T : Type 0} (m : Machine) (values : Map T) (last k : ℕ) (w : T) → AreOwned m values last → map.contains_key values k ≡ true → AreOwned m (map.insert values k w) last
 owned-written m values last k w h is = record {
@@ -230,18 +223,6 @@ taken-fewer values k is =
     let less = total-remove (λ x. 1) values k at.0 at.1 in
     omega (arith, less, total-count values, total-count (map.remove values k))
 
--- The list is emptied, where who carries a value is live.
-pub owned-cleared : {T : Type 0} (m n : Machine) (values : Map T) (last : ℕ) → AreOwned m values last → n ≡ record m { since = record m.since { files = m.world.files; next = m.world.next_ino } }
-    → ((f : ℕ) → IsTrue (map.contains_key values f) → IsLive m.world f) → AreOwned n values last
-owned-cleared m n values last h is live = subst (λ x. AreOwned x values last) (sym is) (record {
-  asked = h.asked;
-  later = omega arith;
-  below = h.below;
-  numbered = h.numbered;
-  given = λ g there. ap (λ b. cond b (is_live m.world g) (nat_lt g m.world.next_ino)) (lt-ltb g m.world.next_ino (h.numbered g there)) ∙ live g there;
-  carried = h.carried;
-})
-
 -- A listed file is freed.
 pub listed-gone : (m : Machine) (told : List ℕ) → m.since.released ≡ true → TellsReleased m.world m.since told → (f : ℕ) → 0 < count_in f told → is_live m.world f ≡ false
 listed-gone m told asked tells f some = by (is_live m.world f) (was_given m.since m.world.next_ino f) (tells asked f) where
@@ -249,15 +230,6 @@ listed-gone m told asked tells f some = by (is_live m.world f) (was_given m.sinc
   by true true e = absurd (omega (arith, e, some))
   by true false e = absurd (omega (arith, e, some))
   by false b e = refl
-
--- A file that carries a value and is not listed is live.
-pub unlisted-live : {T : Type 0} (m : Machine) (values : Map T) (last : ℕ) (told : List ℕ) → AreOwned m values last → TellsReleased m.world m.since told
-    → (f : ℕ) → IsTrue (map.contains_key values f) → count_in f told ≡ 0 → IsLive m.world f
-unlisted-live m values last told h tells f there none = by (is_live m.world f) (was_given m.since m.world.next_ino f) (h.given f there) (tells h.asked f) where
-  by : (a b : Bool) → b ≡ true → count_in f told + (if a then 1 else 0) ≡ (if b then 1 else 0) → a ≡ true
-  by true b given e = refl
-  by false true given e = absurd (omega (arith, e, none))
-  by false false given e = absurd (false≢true given)
 
 -- An engine to which nothing has happened, and that tells which files are freed, and maybe whose
 -- readiness changed.

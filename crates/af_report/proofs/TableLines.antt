@@ -1,5 +1,5 @@
 -- Columns that are joined, and the line of a file.
-use Rattle.std.proofs.Common.{◌≡◌, ℕ, List, [], ◌∷◌, ◌++◌, Some, refl, sym, ap, ◌∙◌, append_assoc}
+use Rattle.std.proofs.Common.{◌≡◌, ℕ, List, [], ◌∷◌, ◌++◌, Some, refl, ap, ◌∙◌, append_assoc}
 use Rattle.std.specs.FinMap as map
 use Rattle.af_base.specs.Whole.{name_at}
 use Rattle.af_base.specs.World.{AsSocket, File, Plain, World}

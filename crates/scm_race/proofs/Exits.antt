@@ -43,14 +43,6 @@ exits-one pairs i child p lt here some =
     let one : exits_of (p ∷ []) ≡ exit_of child ∷ [] = rw some refl in
     exits-more pairs i p lt ∙ ap (λ x. exits_of (take i pairs) ++ exits_of (x ∷ [])) here ∙ ap (λ l. exits_of (take i pairs) ++ l) one
 
--- A list that exits, other pairs and a last pass continue ends in a pass.
-pub finishes : (exits : List Event) (old first second new others : List Pair) (pass reclaimed : ℕ) → WentOn old exits first → second ≡ first ++ others → new ≡ second ++ (event.Pass, reply.Done pass reclaimed) ∷ [] → Finishes exits old new
-finishes exits old first second new others pass reclaimed went more is = (
-  first,
-  went,
-  (others, pass, reclaimed, is ∙ ap (λ l. l ++ (event.Pass, reply.Done pass reclaimed) ∷ []) more),
-)
-
 -- Such a list ends in a pass, whatever exits it has.
 pub in-pass : (exits : List Event) (old new : List Pair) → Finishes exits old new → EndsInPass old new
 in-pass exits old new (exited, went, ended) = (

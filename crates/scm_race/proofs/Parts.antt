@@ -10,7 +10,7 @@ use Rattle.af_base.specs.declared.events.Event.TheVariants as event
 use Rattle.af_base.specs.declared.events.Reply.TheVariants as reply
 use Rattle.af_base.specs.Pass.{Machine}
 use Rattle.af_base.specs.Run.{fresh}
-use Rattle.af_layer.specs.Audit.{AreEmptied, IsWholeBook, list_at, nobody, number_at}
+use Rattle.af_layer.specs.Audit.{IsWholeBook, list_at, nobody, number_at}
 use Rattle.af_layer.specs.Drive.{Collects, Driven, Made, Script, Turned, Work, events_of}
 use Rattle.af_layer.specs.Log.{BookView, Entry, IsLegal, IsLegalFrom, Pair, of_seat}
 use Rattle.af_layer.specs.Seats.{SeatView}
@@ -23,14 +23,6 @@ use Rattle.scm_race.proofs.RaceEnds.{all-steps}
 use Rattle.scm_race.proofs.RaceCloses.{all_new, part-at}
 use Rattle.scm_race.proofs.ScriptLength.{script-count}
 use Rattle.scm_race.proofs.Works.{collector-work, script-at, script-work, scripts-count}
-
--- Where the lists are empty after an audit, the seats are fresh again.
-pub fresh-again : (n : ℕ) (P : ℕ → List Pair → Type 0) (old new : List SeatView) → SeatsHave n P old → AreEmptied old new → AreFresh n new
-fresh-again n P old new had emptied = record {
-  count = emptied.count ∙ had.count;
-  numbers = λ i lt. emptied.numbers i (omega (arith, lt, had.count)) ∙ had.numbers i lt;
-  lists = λ i lt. emptied.lists i (omega (arith, lt, had.count));
-}
 
 -- A list that was lent and has its length comes back as it is.
 pub lent-back : {A : Type 0} → (n : ℕ) (old new : List A) → n ≡ length old → length new ≡ length old → take n (new ++ drop (length new) old) ≡ new

@@ -1,17 +1,13 @@
 -- The words that a stream has next, and the events that are left.
 use Rattle.std.proofs.Common.{◌≡◌, ◌<◌, ◌∙◌, ◌+◌, ◌-◌, Bool, if◌then◌else◌, map, ℕ, zero, suc, List, [], ◌∷◌, ◌++◌, add-one, ap, arith, drop, length, refl, sym, take}
-use Rattle.std.specs.Prelude.{Some, slice_get}
-use Rattle.af_base.specs.declared.events.SockType.TheVariants.{Seqpacket}
-use Rattle.af_base.specs.declared.events.Step.{Step}
 use Rattle.af_base.specs.declared.events.Step.TheVariants as step
-use Rattle.af_base.proofs.Lookups.{some_same}
 use Rattle.af_base.specs.declared.events.Event.{Event}
 use Rattle.af_base.specs.declared.events.Event.TheVariants as event
 use Rattle.rand_core.specs.Stream.{Stream, next_u64}
 use Rattle.rand_core.specs.Steps.{first_words, steps_u64_high, stream_of}
-use Rattle.scm_race.specs.Script.{listener_type, opening_of, opening_steps}
+use Rattle.scm_race.specs.Script.{opening_of}
 use Rattle.scm_race.specs.Source.{rest_of, words_in}
-use Rattle.scm_race.specs.Table.{event_of_word, name_of}
+use Rattle.scm_race.specs.Table.{event_of_word}
 
 -- The next words of a generator's stream are those of its step.
 pub words_in-stream_of : {S : Type 0} → (step : S → ℕ × S) → (n : ℕ) → (s : S) → words_in n (stream_of (steps_u64_high step) s) ≡ first_words step n s
@@ -56,14 +52,6 @@ part-stays n all part left new part_is left_is none is =
       part_is ∙ sym same.0 ∙ ap (λ k. take k all) (sym (add-one n)),
       is ∙ sym same.1 ∙ ap (λ k. drop k all) (sym (add-one n)),
     )
-
--- The next event of the opening.
-pub one-opening : (worker place : ℕ) (made : Step) → place < 4 → slice_get (opening_steps worker) place ≡ Some made → drop place (opening_of worker) ≡ event.Proc worker made ∷ drop (place + 1) (opening_of worker)
-one-opening worker zero made lt is = ap (λ s. event.Proc worker s ∷ drop 1 (opening_of worker)) (some_same (step.Socket (listener_type worker)) made is)
-one-opening worker (suc zero) made lt is = ap (λ s. event.Proc worker s ∷ drop 2 (opening_of worker)) (some_same (step.Bind 0 (name_of worker)) made is)
-one-opening worker (suc (suc zero)) made lt is = ap (λ s. event.Proc worker s ∷ drop 3 (opening_of worker)) (some_same (step.Listen 0 8) made is)
-one-opening worker (suc (suc (suc zero))) made lt is = ap (λ s. event.Proc worker s ∷ []) (some_same (step.Pair Seqpacket) made is)
-one-opening worker (suc (suc (suc (suc n)))) made lt is = absurd (omega (arith, lt))
 
 -- Where the whole opening was made, nothing of it is left.
 pub no-opening : (worker place : ℕ) → place ≡ 4 → drop place (opening_of worker) ≡ []

@@ -15,7 +15,7 @@ use Rattle.af_base.specs.declared.listing.ListedFile.{ListedFile}
 use Rattle.af_base.specs.declared.listing.ListedSocket.{ListedSocket}
 use Rattle.af_base.specs.declared.listing.ListedTable.{ListedTable}
 use Rattle.af_base.proofs.MapsOfLists.{keyed-entries}
-use Rattle.af_collect.proofs.PlainLists.{changed, keyed-changed, keys-rise}
+use Rattle.af_base.proofs.PlainLists.{changed, keyed-changed, keys-rise}
 use Rattle.af_report.specs.Graph.{box_text, contents_text, embryo_text, message_text, name_of, number_text, process_text}
 
 -- The name of a live file.
