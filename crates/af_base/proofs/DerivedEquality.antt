@@ -42,7 +42,7 @@ pub list_itself : (xs : List ℕ) → pointwise nat_eq xs xs ≡ true
 list_itself xs = (slice_eq-Decides Decides-eqb xs xs (pointwise nat_eq xs xs) refl).1 refl
 
 -- Steps that compare equal are equal.
-pub step_same : (a b : Step) → step_eq.ghosts.eq a b ≡ true → a ≡ b
+step_same : (a b : Step) → step_eq.ghosts.eq a b ≡ true → a ≡ b
 step_same step.Open step.Open e = refl
 step_same (step.Dup x) (step.Dup y) e = ap step.Dup (eqb-true x y e)
 step_same (step.Dup2 x z) (step.Dup2 y w) e = let h = both _ _ e in λ i. step.Dup2 (eqb-true x y h.0 i) (eqb-true z w h.1 i)
@@ -73,7 +73,7 @@ step_same (step.Limit x) (step.Limit y) e = ap step.Limit (eqb-true x y e)
 step_same a b e = absurd (false≢true e)
 
 -- A step compares equal to itself.
-pub step_itself : (a : Step) → step_eq.ghosts.eq a a ≡ true
+step_itself : (a : Step) → step_eq.ghosts.eq a a ≡ true
 step_itself step.Open = refl
 step_itself (step.Dup x) = number_itself x
 step_itself (step.Dup2 x z) = each _ _ (number_itself x) (number_itself z)
