@@ -1,7 +1,7 @@
 use Rattle.std.proofs.Common.{rules, ◌≡◌, ◌-◌, true, sym, ap, ◌∙◌, arith}
 use Rattle.std.specs.FinMap as map
 use Rattle.af_table.specs.Bits.{is_taken}
-use Rattle.af_table.proofs.Tables.{open_as_marked, taken_low}
+use Rattle.af_table.proofs.Tables.{open_as_marked, table_cuts, taken_low}
 use Rattle.af_table.proofs.process.Process.copy.Goals as goal
 
 pub returns-clause-last : goal.returns-clause-last
@@ -17,3 +17,6 @@ returns-clause-last c = λ some.
     ∙ open_as_marked words c.self.inside.slots.items _ (row - 1) (search (rules, arith)) none
     ∙ ap (is_taken words) (omega (arith, some, len, low, c.min-used.ensures, c.len-2.ensures))
     ∙ taken
+
+pub returns-clause-process : goal.returns-clause-process
+returns-clause-process c = grind (arith, table_cuts)
