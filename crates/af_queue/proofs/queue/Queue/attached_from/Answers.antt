@@ -1,4 +1,5 @@
 use Rattle.std.proofs.Common.{◌≤◌, ◌-◌, ◌++◌, drop, length, take, take_all, sym, ap, ◌∙◌, subst, arith}
+use Rattle.std.proofs.lemmas.Grind.{common_steps}
 use Rattle.std.proofs.lemmas.List.{length-drop}
 use Rattle.af_base.specs.Places.{attached_in}
 use Rattle.af_queue.specs.declared.queue.TheConstants.{BATCH}
@@ -44,3 +45,9 @@ returns-clause-few c =
     let few = carried_few _ c.self.invariant.2 in
     let most = c.self.invariant.1 in
     omega (arith, few, most, c.self.invariant.0, ap (λ q. length (attached_in q)) c.self.view_is)
+
+pub returns-then-is_full-clause-files : goal.returns-then-is_full-clause-files
+returns-then-is_full-clause-files c = grind (arith, common_steps)
+
+pub returns-clause-files : goal.returns-clause-files
+returns-clause-files c = grind (arith, common_steps)
