@@ -9,6 +9,7 @@ use af_desc::Files;
 use af_ledger::{Ledger, Place};
 
 /// Adds one place in a queue for each of these files, and charges the user.
+#[inline(always)]
 pub fn charge_message(files: &mut Files, ledger: &mut Ledger, user: Uid, attached: &[FileRef])
     requires { CanHoldAll user attached.now (kept_of files.old.counts ledger.old) }
     ensures kept { kept_of files.new.counts ledger.new

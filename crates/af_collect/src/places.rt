@@ -175,6 +175,7 @@ impl Store {
 
     /// Appends a message, whose files are live, to the queue of a socket, and charges each file to
     /// its user, who is the user of a process. Cannot fail, since there is room.
+    #[inline(always)]
     pub fn put_msg(&mut self, socket: &FileRef, message: Msg)
         requires live { (f : ℕ) → Contains message.attached f → world.IsLive self.old.world f }
         requires spared { (f : ℕ) → Contains message.attached f → NotBegunGarbage self.old.pass f }

@@ -127,6 +127,7 @@ impl Holdings {
 
     /// Returns whether a user may send this many files by a process of this limit and privilege, or
     /// why not (unix(7), ETOOMANYREFS).
+    #[inline(always)]
     pub fn may_send(
         &self,
         uid: Uid,

@@ -319,6 +319,7 @@ impl Files {
 
     /// Appends a message to the queue of that socket, which is not full. Cannot fail, since there is
     /// room.
+    #[inline(always)]
     pub fn push(&mut self, file: &FileRef, message: Msg)
         requires socket { is_none (socket_in self.old.files file.now) ≡ false }
         requires few { length (queue_in self.old.files file.now) < MAX_MESSAGES }

@@ -114,6 +114,7 @@ impl Ledger {
     /// Fails with ETOOMANYREFS if the user, without privilege, is charged more than the limit
     /// already, and else with ENOBUFS if too many would be in flight (unix(7)). A message without
     /// files never fails with ETOOMANYREFS.
+    #[inline(always)]
     pub fn may_send(
         &self,
         uid: Uid,
