@@ -87,9 +87,7 @@ stress: build
 	cd crates/af_tests && rt test
 	tools/stress
 
-bench:
-	$(need) rt
-	$(call in_crate,af_bench) rt run
+bench: build
 	tools/bench
 
 try-lib: $(UNPROVED)

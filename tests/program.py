@@ -73,6 +73,7 @@ def race(**changed) -> str:
 
 # Calls for help, and what names no task.
 OTHER_WORDS = ["walk", "", "run fast", "--help", "--version", "run --help", "race --help"]
+OTHER_BENCHMARKS = ["bench", "bench walk 1 1", "bench lock 1", "bench lock 1 1 1", "bench layer 1 -1 1"]
 OUT_OF_RANGE = [
     *(race(workers=it) for it in (33, 0, "one")),
     *(race(steps=it) for it in (4, 20_001, "")),
@@ -104,7 +105,7 @@ RACES = [
 
 def command_lines(program: Program) -> Iterator[Check]:
     """Those that are refused read no script, write a complaint or the help, and have status 2."""
-    for line in [*OTHER_WORDS, *OUT_OF_RANGE, *LEFT_OUT, *TWICE]:
+    for line in [*OTHER_WORDS, *OTHER_BENCHMARKS, *OUT_OF_RANGE, *LEFT_OUT, *TWICE]:
         found = program.run(line, b"spawn 1000 16\n")
         yield line, found, found.status == 2 and not found.output and bool(found.error)
     yield program.check("the version", "--version", b"", Answer(2, b"", b"scmgc 0.2.0\n"))
@@ -112,6 +113,7 @@ def command_lines(program: Program) -> Iterator[Check]:
         ("run --help", b"version 2"),
         ("run --help", b"P peek N N N"),
         ("run --help", b"P limit N"),
+        ("--help", b"scmgc bench"),
         (race(steps=20_001), b"more than 20000 steps need --checkpoint"),
     ]:
         found = program.run(line)
@@ -121,6 +123,22 @@ def command_lines(program: Program) -> Iterator[Check]:
 def races(program: Program) -> Iterator[Check]:
     for line, steps in RACES:
         yield program.check(line, line, b"", Answer(0, b"steps %d\naudit ok\nleft 0\n" % steps))
+
+
+BENCHMARKS = ["script 1 4 3", "layer 2 10 3", "batches 2 32 3", "shared 2 10 3", "engine 10 3", "lock 10 3"]
+
+
+def benchmarks(program: Program) -> Iterator[Check]:
+    """Each run prints a number. A refused event, or a count that does not come out even, fails."""
+    for form in BENCHMARKS:
+        found = program.run(f"bench {form}", b"spawn 1000 16\n1 open\n1 close 0\n")
+        printed = found.output.split()
+        yield form, found, not found.status and len(printed) == 3 and all(it.isdigit() for it in printed)
+    yield program.check("a report", "bench script 1 1 1", b"check\n", Answer(1, b"", b"scmgc: a line is no event\n"))
+    script = b"spawn 1000 16\n1 close 0\n"
+    yield program.check("refused", "bench script 1 1 1", script, Answer(1, b"", b"scmgc: an event was refused\n"))
+    fault = b"scmgc: runs and events do not come out even\n"
+    yield program.check("uneven", "bench script 1 2 1", b"spawn 1 2\n1 open\n1 open\n1 open\n", Answer(1, b"", fault))
 
 
 # ---- Lines ----
@@ -516,7 +534,7 @@ def long_scripts(program: Program) -> Iterator[Check]:
         yield name, last, last == Answer(0, replies.encode())
 
 
-PARTS = [command_lines, races, lines, cut_scripts, streams, long_scripts]
+PARTS = [command_lines, races, benchmarks, lines, cut_scripts, streams, long_scripts]
 
 
 def main() -> int:

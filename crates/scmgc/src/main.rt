@@ -1,14 +1,17 @@
-//! Runs scripts of events against the layer, from standard input to standard output, and lets
-//! workers race on it.
+//! Runs scripts of events against the layer, from standard input to standard output, lets workers
+//! race on it, and measures it.
 //!
 //! `task` reads the command line, and `program` does what it asks for over any streams. `play`
-//! shows a script to its author. `main` has the streams and threads of the system.
+//! shows a script to its author. `main` has the streams and threads of the system. `bench` measures
+//! what events cost, by the system's clock.
 #![tactic(auto)]
 
+mod bench;
 mod play;
 mod program;
 mod task;
 
+use crate::bench::bench;
 use crate::play::Style;
 use crate::program::program;
 use scm_run::{RunFault, Watched};
@@ -38,6 +41,11 @@ fn main(rt: HostRuntime) -> ExitCode {
         let _ = eprintln!(rt; "scmgc: {}", RunFault::Memory);
         return ExitCode::from(1);
     };
+    if let [_, command, asked @ ..] = words.as_slice()
+        && command.as_str() == "bench"
+    {
+        return ExitCode::from(bench(&rt, alloc, asked, rt.stdin(), &mut errors));
+    }
     ExitCode::from(program(
         &rt,
         alloc,

@@ -61,6 +61,10 @@ of a script there are
   graph   the world in the language of Graphviz
   help    all lines";
 
+/// The help on benchmarks, which `main` does before it asks for a task.
+const OF_BENCHMARKS: &str =
+    "scmgc bench measures what events cost, and without more words lists its forms";
+
 /// Makes the subcommand that runs a script.
 fn run_command<'a>(alloc: Global) -> Command<'a>
     ensures shape { app_of result ≡ run_app }
@@ -178,6 +182,7 @@ fn bare_command<'a>(alloc: Global) -> Command<'a>
     Command::new(alloc, "scmgc")
         .version("0.2.0")
         .about("An in-memory AF_UNIX layer that keeps account of descriptors in flight")
+        .after_help(OF_BENCHMARKS)
         .arg_required_else_help(true)
         .subcommand_required(true)
 }

@@ -3,7 +3,7 @@
 //! Each run is over a fresh layer, with room for all that it logs. In each thread a process of its
 //! own opens a plain file and closes it, by turns.
 
-use crate::runs::{refusal, time_since};
+use crate::bench::runs::{refusal, time_since};
 use af_base::events::{Event, Step};
 use af_base::ids::{Fd, Pid, Uid};
 use af_layer::{Layer, Seat};

@@ -4,40 +4,55 @@
 //! over: a run continues where the one before it stopped, and the first line of the rest follows
 //! the last.
 
-use crate::runs::{Runs, print_times, refusal, time_since};
+use crate::bench::runs::{Runs, print_times, refusal, time_since};
 use af_base::events::{Event, Reply};
 use af_steps::Engine;
 use scm_lines::{Line, LineFault, line_of};
 use std::alloc::{AllocError, Global};
-use std::io;
+use std::io::{self, Print, Read};
 use std::str::Lines;
-use std::time::Instant;
+use std::time::{Clock, Instant};
 
-/// Measures the script from standard input, without its first lines, this many.
-pub fn measure_input(rt: &HostRuntime, setup: usize, runs: Runs) -> io::Result<()> {
-    let script = io::read_to_string(rt.alloc(), rt.stdin())?;
-    measure_script(rt, script.as_str(), setup, runs)
-}
-
-fn measure_script(rt: &HostRuntime, script: &str, setup: usize, runs: Runs) -> io::Result<()> {
-    let mut engine = Engine::new(rt.alloc())?;
-    let mut lines = script.lines();
-    measure_lines(rt, &mut engine, &mut lines, setup, runs)
-}
-
-/// Does the first lines, and measures the rest.
-fn measure_lines(
-    rt: &HostRuntime,
-    engine: &mut Engine,
-    lines: &mut Lines<'_>,
+/// Measures the script that a reader gives, without its first lines, this many.
+pub fn measure_input<R: Clock + Print, I: Read + Drop>(
+    rt: &R,
+    alloc: Global,
+    input: I,
     setup: usize,
     runs: Runs,
 ) -> io::Result<()> {
+    let script = io::read_to_string(alloc, input)?;
+    measure_script(rt, alloc, script.as_str(), setup, runs)
+}
+
+fn measure_script<R: Clock + Print>(
+    rt: &R,
+    alloc: Global,
+    script: &str,
+    setup: usize,
+    runs: Runs,
+) -> io::Result<()> {
+    let mut engine = Engine::new(alloc)?;
+    let mut lines = script.lines();
+    let events = events_after(alloc, &mut engine, &mut lines, setup)?;
+    measure(rt, alloc, &mut engine, events.as_slice(), runs)
+}
+
+/// Does the first lines, and returns the events of the rest.
+fn events_after(
+    alloc: Global,
+    engine: &mut Engine,
+    lines: &mut Lines<'_>,
+    setup: usize,
+) -> io::Result<Vec<Event>> {
     for line in lines.take(setup) {
-        do_line(rt.alloc(), engine, line)?;
+        do_line(alloc, engine, line)?;
     }
-    let events = events_of(rt.alloc(), lines)?;
-    measure(rt, engine, events.as_slice(), runs)
+    let mut events = Vec::new(alloc);
+    for line in lines {
+        events.push(event_of(alloc, line)?)?;
+    }
+    Ok(events)
 }
 
 /// Does the event of a line.
@@ -58,15 +73,6 @@ fn event_of(alloc: Global, line: &str) -> io::Result<Event> {
     }
 }
 
-/// Returns the events of all lines that are left.
-fn events_of(alloc: Global, lines: &mut Lines<'_>) -> io::Result<Vec<Event>> {
-    let mut events = Vec::new(alloc);
-    for line in lines {
-        events.push(event_of(alloc, line)?)?;
-    }
-    Ok(events)
-}
-
 /// Does the event, and says whether it was not refused.
 #[inline(always)]
 fn is_done(engine: &mut Engine, event: &Event) -> bool {
@@ -74,11 +80,17 @@ fn is_done(engine: &mut Engine, event: &Event) -> bool {
 }
 
 /// Does these events over and over, and prints what each run took.
-fn measure(rt: &HostRuntime, engine: &mut Engine, events: &[Event], runs: Runs) -> io::Result<()> {
+fn measure<R: Clock + Print>(
+    rt: &R,
+    alloc: Global,
+    engine: &mut Engine,
+    events: &[Event],
+    runs: Runs,
+) -> io::Result<()> {
     let Some(rounds) = runs.rounds(events.len()) else {
         return Err(io::Error::other("runs and events do not come out even"));
     };
-    let mut times = Vec::new(rt.alloc());
+    let mut times = Vec::new(alloc);
     for events in events.chunks_exact(rounds.events).cycle().take(runs.count) {
         let start = Instant::now(rt)?;
         let is_done = are_done(engine, events, rounds.count);

@@ -1,11 +1,11 @@
-//! Measures typed calls by an engine alone and by one behind a lock, that lock alone, and calls of a
-//! layer.
+//! Measures typed calls by an engine alone and by one behind a lock, that lock alone, and calls of
+//! a layer.
 //!
 //! A process opens a plain file and closes it, by turns; behind a lock, one in each thread. Each
 //! run is over a fresh engine.
 
-use crate::layer::{self, Locking};
-use crate::runs::{Runs, print_times, refusal, time_since};
+use crate::bench::layer::{self, Locking};
+use crate::bench::runs::{Runs, print_times, refusal, time_since};
 use af_base::ids::{Fd, Pid, Uid};
 use af_layer::Shared;
 use af_steps::Engine;
