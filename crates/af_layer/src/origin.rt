@@ -44,7 +44,7 @@ impl Origin for AtCheckpoint {
     ghost begins = { IsReached };
 }
 
-/// For a call that picks the origin in its proof, as `LongRace` of `scm_race` does. Without a pick
+/// For a call that picks the origin in its proof, as `LongRace` of `scmgc` does. Without a pick
 /// it is that of `Fresh`.
 impl Origin for Brand {
     ghost begins = { λ seats machine. machine ≡ fresh };

@@ -4,6 +4,4 @@
 #[cfg(test)]
 mod layer;
 #[cfg(test)]
-mod race;
-#[cfg(test)]
 mod steps;

@@ -7,3 +7,5 @@ pub mod Display
 pub mod Played
 pub mod Cut
 pub mod Progress
+-- A race, its workload, and its faults.
+pub mod Race

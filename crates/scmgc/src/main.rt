@@ -9,6 +9,7 @@
 mod bench;
 mod play;
 mod program;
+mod race;
 mod task;
 
 use crate::bench::bench;

@@ -9,12 +9,12 @@ ghost use Rattle.scmgc.specs.Task.{IsInRange, Names, fits};
 ghost use Rattle.scmgc.specs.declared.task.Task.{Task as Asked};
 ghost use Rattle.scmgc.specs.declared.task.Task.TheVariants as task;
 ghost use Rattle.scmgc.specs.Played.{Played};
-ghost use Rattle.scm_race.specs.Race.{LongRaceText, RaceText};
+ghost use Rattle.scmgc.specs.Race.{LongRaceText, RaceText};
 
 use crate::play::{PlayFault, Style, play};
+use crate::race::{LongRace, Race, RaceFault};
 use crate::task::{Task, task_of};
 use clap::error::ErrorKind;
-use scm_race::{LongRace, Race, RaceFault};
 use scm_run::{RunFault, Watched, run_script, write_whole};
 use std::alloc::Global;
 use std::convert::AsStr;

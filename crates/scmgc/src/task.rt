@@ -12,12 +12,12 @@ ghost use Rattle.scmgc.specs.Task.{checkpoint_rule, fits, most_steps, number_rul
 ghost use Rattle.scmgc.specs.Task.{play_app, run_app, whole_app};
 ghost use Rattle.scmgc.specs.declared.task.Task.{Task as Asked};
 
+use crate::race::workload::{MAX_STEPS, MAX_WORKERS, MIN_STEPS};
+use crate::race::{MAX_CHECKPOINT, MAX_LONG_STEPS};
 use af_base::limits::MAX_BUDGET;
 use clap::builder::ValueParser;
 use clap::error::ErrorKind;
 use clap::{Arg, ArgMatches, Command, Error};
-use scm_race::workload::{MAX_STEPS, MAX_WORKERS, MIN_STEPS};
-use scm_race::{MAX_CHECKPOINT, MAX_LONG_STEPS};
 use std::alloc::{AllocError, Global};
 use std::convert::AsStr;
 

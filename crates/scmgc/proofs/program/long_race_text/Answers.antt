@@ -1,5 +1,5 @@
 use Rattle.std.proofs.Common.{◌∙◌}
-use Rattle.scm_race.specs.Race.{race_lines}
+use Rattle.scmgc.specs.Race.{race_lines}
 use Rattle.scmgc.proofs.program.long_race_text.Goals as goal
 
 pub returns : goal.returns

@@ -1,5 +1,5 @@
 use Rattle.std.proofs.Common.{ap, ◌∙◌}
-use Rattle.scm_race.specs.Race.{outcome_text}
+use Rattle.scmgc.specs.Race.{outcome_text}
 use Rattle.scmgc.proofs.program.race_text.Goals as goal
 
 pub returns : goal.returns

@@ -1,0 +1,12 @@
+-- Lemmas.
+mod LastPairs
+mod SeatEntries
+mod RaceEnds
+mod Exits
+mod OwnSteps
+mod Parts
+mod RaceCloses
+mod ScriptLength
+mod Words
+mod WorkedScripts
+mod Works

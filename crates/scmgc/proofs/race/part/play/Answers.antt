@@ -1,0 +1,21 @@
+use Rattle.std.proofs.Common.{rules, ◌≡◌, ◌++◌, [], ◌∷◌, List, ap, length, map, subst, vec_len, ◌∙◌}
+use Rattle.std.specs.Prelude.{Vec, option_to_list}
+use Rattle.std.proofs.Common.{Global}
+use Rattle.std.proofs.lemmas.List.{length-map}
+use Rattle.af_base.specs.declared.events.Event.{Event}
+use Rattle.af_layer.specs.Drive.{Driven, Made}
+use Rattle.scmgc.proofs.race.Parts.{seats-played}
+use Rattle.scmgc.proofs.race.Works.{scripts-work}
+use Rattle.scmgc.proofs.race.part.play.Goals as goal
+
+pub returns : goal.returns
+returns g c =
+    let split : c.args.seats.items ≡ c.pop.new.self.items ++ c.unwrap-main.result ∷ [] = c.pop.ensures.items ∙ ap (λ o. c.pop.new.self.items ++ option_to_list o) c.unwrap-main.ensures in
+    let scripts = c.args.scripts.items in
+    let events : Vec Event Global → List Event = λ v. v.items in
+    let turns = c.args.turns in
+    let many : length scripts ≡ vec_len c.args.scripts = search rules in
+    seats-played (vec_len c.args.scripts) c.args.seats.items c.pop.new.self.items c.unwrap-main.result c.requires.fresh split
+    (map events scripts) turns.turns turns.budget (length-map scripts events ∙ many) c.in_ok-seats.seats.items c.push.new.self.items c.end_pass.new.main
+    (subst (λ works. Driven Made c.pop.new.self.items works c.in_ok-seats.seats.items) (scripts-work scripts turns) c.in_ok-seats.ensures.done)
+    c.in_ok-push.ensures.items (c.end_pass.ensures.number ∙ c.end_children.ensures.number)

@@ -1,0 +1,15 @@
+use Rattle.std.proofs.Common.{[]}
+use Rattle.af_layer.specs.Drive.{Turned}
+use Rattle.scmgc.proofs.race.RaceEnds.{all-steps}
+use Rattle.scmgc.proofs.race.whole.Race.run.Goals as goal
+
+pub returns-clause-raced : goal.returns-clause-raced
+returns-clause-raced g c = c.in_ok-seats.ensures.raced c.in_ok-closed.closed.book c.in_ok-closed.ensures.legal c.in_ok-closed.ensures.whole
+
+pub returns-clause-exits : goal.returns-clause-exits
+returns-clause-exits g c = c.in_ok-seats.ensures.exits c.in_ok-closed.closed.book c.in_ok-closed.ensures.whole
+
+pub returns-clause-steps : goal.returns-clause-steps
+returns-clause-steps g c =
+    let race = c.args.self in
+    all-steps (Turned race.budget []) race.workers race.steps race.seed c.in_ok-closed.closed.book c.requires.steps.0 (returns-clause-raced g c)

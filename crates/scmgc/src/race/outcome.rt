@@ -1,0 +1,52 @@
+//! The outcome of a race.
+ghost use Rattle.std.specs.Prelude.{◌≡◌, IfOk, string_bytes};
+ghost use Rattle.std.specs.FinMap as map;
+ghost use Rattle.scmgc.specs.Race.{outcome_text, worker_steps};
+
+use af_layer::{Closed, Entry};
+use std::alloc::{AllocError, Global};
+
+/// The outcome of a race: its layer, which was closed without a fault.
+///
+/// The log of the closed book has all events of the race. The report of a race is counted in this
+/// book.
+#[derive(Drop)]
+pub struct RaceOutcome {
+    /// How many workers there were. Their seats are those from 1 to this number.
+    pub workers: u32,
+    /// The engine and the log, as the audit left them.
+    pub closed: Closed,
+}
+
+/// Returns how many entries of a log are of the seats from 1 to this number.
+pub fn steps_up_to(log: &[Entry], workers: u32) -> usize
+    ensures { result ≡ worker_steps workers log.now }
+{
+    log.iter().filter(|entry| entry.seat() <= workers).count()
+}
+
+impl RaceOutcome {
+    /// Counts the events that the workers did.
+    pub fn steps(&self) -> usize
+        ensures { result ≡ worker_steps self.now.workers self.now.closed.book.log }
+    {
+        steps_up_to(self.closed.book.log(), self.workers)
+    }
+
+    /// Returns how many files are live at the end.
+    pub fn live_files(&self) -> usize
+        ensures { result ≡ map.len self.now.closed.book.machine.world.files }
+    {
+        self.closed.book.engine().live()
+    }
+
+    /// Writes the three lines that tell the race. The error says that memory was refused.
+    pub fn text(&self, alloc: Global) -> Result<String, AllocError>
+        ensures { IfOk result (λ text.
+            string_bytes text ≡ outcome_text self.now.workers self.now.closed.book) }
+    {
+        let steps = self.steps();
+        let left = self.live_files();
+        format!(in alloc; "steps {steps}\naudit ok\nleft {left}\n")
+    }
+}
