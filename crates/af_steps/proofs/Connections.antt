@@ -1,15 +1,13 @@
 -- A connect and an accept, by what was looked up.
-use Rattle.std.proofs.Common.{◌≡◌, ◌<◌, ℕ, false, List, [], ◌∷◌, ◌++◌, length, nat_eq, refl, sym, ap, ◌∙◌}
-use Rattle.std.specs.Prelude.{Option, Some, None, is_none, not, unwrap_or, slice_get}
+use Rattle.std.proofs.Common.{◌≡◌, ℕ, false, List, [], ◌∷◌, ◌++◌, length, nat_eq, refl, sym, ap, ◌∙◌}
+use Rattle.std.specs.Prelude.{Option, Some, None, is_none, unwrap_or, slice_get}
 use Rattle.std.specs.Option.{IsSome, option_and_then, option_map_or}
-use Rattle.std.proofs.lemmas.Bool.{false≢true, leb-false}
+use Rattle.std.proofs.lemmas.Bool.{false≢true}
 use Rattle.af_base.specs.declared.errno.Errno.TheVariants.{EMFILE}
-use Rattle.af_base.specs.declared.events.SockType.{SockType}
-use Rattle.af_base.specs.declared.events.SockType.TheVariants.{Seqpacket, Stream}
 use Rattle.af_base.specs.declared.events.Step.TheVariants as step
 use Rattle.af_base.specs.Names.{named}
 use Rattle.af_base.specs.Places.{backlog_at, backlog_of}
-use Rattle.af_base.specs.Refusals.{first_fit, is_same_type, is_short, on_accept, on_free, on_listener, refusal, room_of, socket_at}
+use Rattle.af_base.specs.Refusals.{first_fit, is_short, on_accept, on_free, refusal, socket_at}
 use Rattle.af_base.specs.Steps.{first_embryo}
 use Rattle.af_base.specs.World.{Process, Socket, World}
 use Rattle.af_base.proofs.Lookups.{none_some}
@@ -18,23 +16,12 @@ use Rattle.af_base.proofs.SoundSteps.{none-fits, passes-on}
 use Rattle.af_steps.specs.Found.{HasSocket}
 use Rattle.af_steps.proofs.LookupRows.{after-socket, file-is, socket-is}
 
--- The backlog of a listening socket.
-pub room-left : (l : Socket) (kind : SockType) → first_fit (on_listener l kind) ≡ None → length l.backlog < room_of l.state
-room-left l kind ready = leb-false (room_of l.state) (length l.backlog) (none-fits (on_listener l kind) ready).rest.rest.here
-
 -- A listener of a name is a socket.
 pub listener-is : (w : World) (name : List ℕ) (f : ℕ) → named w.files name ≡ Some f → is_none (socket_at w f) ≡ false
 listener-is w name f has = by (socket_at w f) (named-some w name f has) where
   by : (o : Option Socket) → option_and_then (λ s. s.name) o ≡ Some name → is_none o ≡ false
   by None e = absurd (none_some name e)
   by (Some s) e = refl
-
--- Types of which the test says that they are not different are the same.
-pub same-type : (a b : SockType) → not (is_same_type a b) ≡ false → a ≡ b
-same-type Stream Stream e = refl
-same-type Stream Seqpacket e = absurd (false≢true (sym e))
-same-type Seqpacket Stream e = absurd (false≢true (sym e))
-same-type Seqpacket Seqpacket e = refl
 
 -- A row that is not missing is there.
 pub some-by : {B : Type 0} (o : Option B) → ¬ (o ≡ None) → IsSome o

@@ -1,11 +1,13 @@
 -- The results of an event's look-ups.
-use Rattle.std.specs.Prelude.{◌≡◌, ◌<◌, ℕ, IsTrue, List, None, Some, false, is_none, length, nat_eq}
+use Rattle.std.specs.Prelude.{◌≡◌, ◌<◌, ℕ, IfSome, IsTrue, List, None, Some, false, is_none, length, nat_eq}
 use Rattle.std.specs.FinMap as map
 use Rattle.af_base.specs.declared.events.Reply.TheVariants as reply
+use Rattle.af_base.specs.declared.events.SockType.{SockType}
+use Rattle.af_base.specs.declared.events.State.TheVariants as state
 use Rattle.af_base.specs.declared.events.Step.TheVariants as step
 use Rattle.af_base.specs.Places.{table_at}
-use Rattle.af_base.specs.Refusals.{refusal, socket_at, socket_on}
-use Rattle.af_base.specs.Steps.{answer, effect, got_at}
+use Rattle.af_base.specs.Refusals.{is_full, refusal, room_of, socket_at, socket_on}
+use Rattle.af_base.specs.Steps.{answer, effect, got_at, with_embryo}
 use Rattle.af_base.specs.World.{Process, Socket, World}
 
 -- The process p of the world is this one.
@@ -21,6 +23,16 @@ pub record HasNumber (w : World) (p : ℕ) (q : Process) (n f : ℕ) : Type 0 wh
 pub record HasSocket (w : World) (p : ℕ) (q : Process) (n f : ℕ) (x : Socket) : Type 0 where
   pub number : HasNumber w p q n f
   pub found : socket_at w f ≡ Some x
+
+-- A connect of process p at its descriptor n finds socket f, and the listener g of this name, with
+-- room for an embryo of this type (connect(2)).
+pub record HasListener (w : World) (p n : ℕ) (name : List ℕ) (f g : ℕ) (kind : SockType) : Type 0 where
+  pub full : is_full w 1 ≡ false
+  pub client : is_none (socket_at w f) ≡ false
+  pub idle : IfSome (socket_at w f) (λ (s : Socket). s.state ≡ state.Idle)
+  pub listener : is_none (socket_at w g) ≡ false
+  pub room : IfSome (socket_at w g) (λ (s : Socket). length s.backlog < room_of s.state)
+  pub leads : effect w p (step.Connect n name) ≡ with_embryo w f g kind
 
 -- A receive of process p at its descriptor n, of at most this many bytes and descriptors, takes
 -- from socket f, where a message waits, and installs files at these numbers (recvmsg(2)).

@@ -3,15 +3,17 @@ ghost use Rattle.std.specs.Prelude.{◌≡◌, ◌↔◌, None, Some, IfErr, IfO
 ghost use Rattle.std.specs.List.{list_all};
 ghost use Rattle.af_base.specs.Names.{is_name, is_name_byte};
 ghost use Rattle.af_base.specs.Refusals.{first_fit, on_accept, on_bind, on_client, on_listen};
-ghost use Rattle.af_base.specs.Refusals.{on_listener};
+ghost use Rattle.af_base.specs.Refusals.{on_listener, refusal};
+ghost use Rattle.af_steps.specs.Found.{HasListener};
 ghost use Rattle.af_steps.specs.Outcome.{Does, Refuses};
 
 use crate::engine::Engine;
 use crate::lookups::{descriptor_for_file, socket_on};
 use af_base::errno::Errno;
 use af_base::events::{Reply, SockType, State, Step};
-use af_base::ids::{Fd, Pid};
+use af_base::ids::{Fd, FileRef, Pid};
 use af_base::limits::{MAX_BACKLOG, MAX_NAME};
+use af_collect::Store;
 use af_desc::Socket;
 
 impl Engine {
@@ -86,20 +88,8 @@ impl Engine {
         ensures refused { IfErr result (λ e.
             Refuses self.old pid (Step.Connect on name.now) e self.new) }
     {
-        let (_, file, client) = socket_on(&self.store, pid, on)?;
-        check_client(&client)?;
-        let listener = self
-            .store
-            .holdings()
-            .files()
-            .find_name(name)
-            .ok_or(Errno::ECONNREFUSED)?;
-        let kind = client.kind();
-        check_listener(&self.store.holdings().socket(&listener).unwrap(), kind)?;
-        if self.store.holdings().files().is_full(1) {
-            return Err(Errno::ENFILE);
-        }
-        self.store.make_embryo(kind, &file, &listener)?;
+        let (client, listener, kind) = find_listener(&self.store, pid, on, name)?;
+        self.store.make_embryo(kind, &client, &listener)?;
         self.store.release();
         Ok(())
     }
@@ -122,6 +112,34 @@ impl Engine {
         self.store.release();
         Ok(fd)
     }
+}
+
+/// Returns the socket that connects, the listener of this name, and their type; or why the socket
+/// cannot connect.
+#[inline(always)]
+fn find_listener(
+    store: &Store,
+    pid: Pid,
+    on: Fd,
+    name: &[u8],
+) -> Result<(FileRef, FileRef, SockType), Errno>
+    ensures fits { OnOk result
+        (refusal store.now.world pid (Step.Connect on name.now) ≡ None) }
+    ensures found { IfOk result (λ found.
+        HasListener store.now.world pid on name.now found.0 found.1 found.2) }
+    ensures refused { IfErr result (λ e.
+        refusal store.now.world pid (Step.Connect on name.now) ≡ Some e) }
+{
+    let (_, file, client) = socket_on(store, pid, on)?;
+    check_client(&client)?;
+    let holdings = store.holdings();
+    let listener = holdings.files().find_name(name).ok_or(Errno::ECONNREFUSED)?;
+    let kind = client.kind();
+    check_listener(&holdings.socket(&listener).unwrap(), kind)?;
+    if holdings.files().is_full(1) {
+        return Err(Errno::ENFILE);
+    }
+    Ok((file, listener, kind))
 }
 
 /// Returns whether the socket can have this name, or why not.
