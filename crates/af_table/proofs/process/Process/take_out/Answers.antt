@@ -8,8 +8,5 @@ returns-in_err-was-clause-taken c = grind (arith, table_frees)
 pub index_mut-requires : goal.index_mut-requires
 index_mut-requires c = grind (arith, table_reads)
 
-pub clear-requires : goal.clear-requires
-clear-requires c = grind (arith, table_reads)
-
 pub returns-clause-taken : goal.returns-clause-taken
 returns-clause-taken c = grind (arith, table_frees)
