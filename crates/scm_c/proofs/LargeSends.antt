@@ -1,6 +1,6 @@
 -- A send of more numbers than a message may have is refused alike, whichever they are.
 use Rattle.std.proofs.Common.{◌≡◌, ◌<◌, ℕ, ◌||◌, Bool, true, false, List, ◌∷◌, length, take, drop, take_all, length-take-le, nat_eq, nat_lt, arith, refl, ap, sym, subst, lt-ltb, ltb-false, ltb-true}
-use Rattle.std.specs.Prelude.{Option, Some, None, not, is_none, if◌then◌else◌}
+use Rattle.std.specs.Prelude.{Option, Some, not, is_none, if◌then◌else◌}
 use Rattle.std.specs.FinMap as map
 use Rattle.af_base.specs.World.{World}
 use Rattle.af_base.specs.Places.{table_at}

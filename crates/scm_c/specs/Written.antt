@@ -1,6 +1,6 @@
 -- The values that a call writes to the caller's places. Definitions that name no manual page are of
 -- this project's profile (docs/PROFILE.md).
-use Rattle.std.specs.Prelude.{◌≡◌, ◌⊎◌, ◌<◌, ℕ, ◌++◌, Bool, true, false, List, length, take, drop, min, Option, Some, None}
+use Rattle.std.specs.Prelude.{◌≡◌, ◌⊎◌, ◌<◌, ℕ, ◌++◌, false, List, length, take, drop, min, Option, Some, None}
 use Rattle.af_base.specs.World.{World, is_live, IsLive}
 use Rattle.af_base.specs.declared.limits.TheConstants.{MAX_BYTES}
 use Rattle.af_base.specs.declared.events.Reply.{Reply}

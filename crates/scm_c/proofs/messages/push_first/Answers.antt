@@ -1,4 +1,4 @@
-use Rattle.std.proofs.Common.{◌≡◌, ◌∙◌, length, take, take_all, ap}
+use Rattle.std.proofs.Common.{◌∙◌, take, take_all, ap}
 use Rattle.std.proofs.lemmas.List.{take_min}
 use Rattle.scm_c.proofs.messages.push_first.Goals as goal
 
