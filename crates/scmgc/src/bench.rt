@@ -41,13 +41,18 @@ impl Benchmark {
             return None;
         };
         let runs = Runs::of(events, count)?;
+        let first = match first {
+            [] => None,
+            [word] => Some(word.parse::<u32>().ok()?),
+            _ => return None,
+        };
         let calls = match (form.as_str(), first) {
-            ("script", [setup]) => return Some(Benchmark::Script(setup.parse().ok()?, runs)),
-            ("layer", [threads]) => Calls::Layer(threads.parse().ok()?, Locking::Calls),
-            ("batches", [threads]) => Calls::Layer(threads.parse().ok()?, Locking::Batches(BATCH)),
-            ("shared", [threads]) => Calls::Shared(threads.parse().ok()?),
-            ("engine", []) => Calls::Engine,
-            ("lock", []) => Calls::Lock,
+            ("script", Some(setup)) => return Some(Benchmark::Script(setup as usize, runs)),
+            ("layer", Some(threads)) => Calls::Layer(threads, Locking::Calls),
+            ("batches", Some(threads)) => Calls::Layer(threads, Locking::Batches(BATCH)),
+            ("shared", Some(threads)) => Calls::Shared(threads),
+            ("engine", None) => Calls::Engine,
+            ("lock", None) => Calls::Lock,
             _ => return None,
         };
         Some(Benchmark::Calls(calls, runs))
