@@ -47,7 +47,7 @@ help:
 try: $(TRIED)
 	$(TRIED) play $(SCRIPT)
 
-$(TRIED) $(UNPROVED): out/unproved/%: tools/try-build $(wildcard crates/*/src/*.rt crates/*/src/*/*.rt)
+$(TRIED) $(UNPROVED): out/unproved/%: tools/try-build $(shell find crates/*/src -name "*.rt")
 	$(need) rt
 	tools/try-build $*
 
