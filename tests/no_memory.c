@@ -1,6 +1,7 @@
-/* Want of memory: every allocation fails in turn. Each call is then refused by JW_ENOMEM and leaves
- * the engine as it was, or is done; asked again it is done; and the calls that never need memory are
- * never refused. Link with -Wl,--wrap=malloc,--wrap=realloc. The status is 0 where all of that holds. */
+/* Want of memory: every allocation fails in turn, most of them while a pass marks. Each call is
+ * then refused by JW_ENOMEM and leaves the engine as it was, or is done; asked again it is done; and
+ * the calls that never need memory are never refused. Link with -Wl,--wrap=malloc,--wrap=realloc.
+ * The status is 0 where all of that holds. */
 #include <jaywardrobe.h>
 #include <stdio.h>
 #include <stdlib.h>
@@ -97,6 +98,8 @@ static void life(void) {
     DONE(jw_dup2(&engine, 1, 2, 40), 40);
     fds[0] = 2, fds[1] = 0;
     DONE(jw_send(&engine, 1, 1, "hello", 5, fds, 2), 5);
+    FREE(jw_begin(&engine, &finished.pass), 0);
+    FREE(jw_slice(&engine, 1, &finished), 1);
     FREE(jw_send(&engine, 1, 1, "hello", 0, fds, 2), -JW_EINVAL);
     FREE(jw_send(&engine, 1, 2, "hello", 5, fds, 2), -JW_ENOTSOCK);
     DONE(jw_peek(&engine, 1, 0, bytes, 8, fds, 8, &got), 5);
@@ -126,6 +129,7 @@ static void life(void) {
     FREE(jw_exit(&engine, 2), 0);
     FREE(jw_close(&engine, 1, 40), 0);
     FREE(jw_exit(&engine, 1), 0);
+    FREE(jw_slice(&engine, 65536, &finished), 0);
     FREE(jw_pass(&engine, &finished), 0);
     FREE(jw_live(&engine, &checked.live), 0);
     FREE(checked.live == 0, true);

@@ -125,18 +125,47 @@ def races(program: Program) -> Iterator[Check]:
         yield program.check(line, line, b"", Answer(0, b"steps %d\naudit ok\nleft 0\n" % steps))
 
 
-BENCHMARKS = ["script 1 4 3", "layer 2 10 3", "batches 2 32 3", "shared 2 10 3", "engine 10 3", "lock 10 3"]
+# Scripts for a benchmark. The second has each event, and three runs do it once.
+SHORT = b"spawn 1000 16\n1 open\n1 close 0\n"
+EACH_EVENT = b"""spawn 1000 16
+1 open
+1 dup 0
+1 dup2 0 2
+1 limit 32
+1 pair stream
+1 send 3 hi 0
+begin
+slice 1
+1 peek 4 9 4
+1 recv 4 9 4
+1 close 0
+1 socket stream
+1 bind 0 hub
+1 listen 0 1
+1 socket stream
+1 connect 7 hub
+1 accept 0
+1 fork
+2 exit
+slice 65536
+pass
+"""
+# Of a layer's entries, one for each seat is its start. There may be 1,048,576: the first layer has so many.
+CALLS = ["layer 1 1048575 3", "layer 4 500 3", "batches 1 1048560 3", "shared 4 2000 3", "engine 10 3", "lock 10 3"]
+BENCHMARKS = [("script 1 4 3", SHORT), ("script 1 7 3", EACH_EVENT), *((it, b"") for it in CALLS)]
+# The last call finds no room for its entry.
+REFUSED = [("script 1 1 1", b"spawn 1000 16\n1 close 0\n"), ("layer 1 1048576 1", b""), ("batches 1 1048576 1", b"")]
 
 
 def benchmarks(program: Program) -> Iterator[Check]:
     """Each run prints a number. A refused event, or a count that does not come out even, fails."""
-    for form in BENCHMARKS:
-        found = program.run(f"bench {form}", b"spawn 1000 16\n1 open\n1 close 0\n")
+    for form, script in BENCHMARKS:
+        found = program.run(f"bench {form}", script)
         printed = found.output.split()
         yield form, found, not found.status and len(printed) == 3 and all(it.isdigit() for it in printed)
     yield program.check("a report", "bench script 1 1 1", b"check\n", Answer(1, b"", b"scmgc: a line is no event\n"))
-    script = b"spawn 1000 16\n1 close 0\n"
-    yield program.check("refused", "bench script 1 1 1", script, Answer(1, b"", b"scmgc: an event was refused\n"))
+    for form, script in REFUSED:
+        yield program.check(form, f"bench {form}", script, Answer(1, b"", b"scmgc: an event was refused\n"))
     fault = b"scmgc: runs and events do not come out even\n"
     yield program.check("uneven", "bench script 1 2 1", b"spawn 1 2\n1 open\n1 open\n1 open\n", Answer(1, b"", fault))
 
