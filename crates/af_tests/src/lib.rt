@@ -2,6 +2,10 @@
 #![tactic(auto)]
 
 #[cfg(test)]
-mod layer;
+mod books;
 #[cfg(test)]
-mod steps;
+mod gates;
+#[cfg(test)]
+mod runs;
+#[cfg(test)]
+mod shared;

@@ -1,6 +1,5 @@
-//! A run of a list: one reply for each event. It passes with one allocation refused, the Nth, too:
-//! `tools/stress` refuses each in turn.
-use super::acts::{Trial, on_new_engine};
+//! A run of a list: one reply for each event. One allocation is refused, the Nth: `tools/stress`
+//! refuses each in turn.
 use af_base::errno::Errno;
 use af_base::events::{Event, Reply, Step};
 use af_base::ids::{Fd, Pid, Uid};
@@ -53,18 +52,11 @@ fn run_all(rt: &impl Abort, engine: &mut Engine, events: &[Event]) {
 }
 
 /// All rounds are run. Where the refused allocation is of the list of events, nothing is.
-struct AllRounds;
-
-impl Trial for AllRounds {
-    fn on<T: Abort>(&self, rt: &T, alloc: Global, engine: &mut Engine) -> Result<(), AllocError> {
-        if let Ok(events) = rounds(alloc) {
-            run_all(rt, engine, &events);
-        }
-        Ok(())
-    }
-}
-
 #[test]
 fn one_reply_for_each_event(rt: HostRuntime) -> Result<(), AllocError> {
-    on_new_engine(&rt, rt.alloc(), &AllRounds)
+    let mut engine = Engine::new(rt.alloc())?;
+    if let Ok(events) = rounds(rt.alloc()) {
+        run_all(&rt, &mut engine, &events);
+    }
+    Ok(())
 }

@@ -1,12 +1,50 @@
-//! Calls on a book without a lock, and for a seat that it does not have. One allocation is refused,
-//! the Nth: `tools/stress` refuses each in turn.
-use super::bench::spawn;
-use super::growths::nth_event;
+//! Calls on a book without a lock, and from a seat. One allocation is refused, the Nth:
+//! `tools/stress` refuses each in turn.
 use af_base::errno::Errno;
-use af_base::events::{Event, Reply};
+use af_base::events::{Event, Reply, SockType, Step};
+use af_base::ids::{Fd, Pid, Uid};
+use af_base::items::Items;
 use af_layer::{Book, CallError, Layer, Seat};
-use std::alloc::Global;
+use std::alloc::{AllocError, Global};
 use std::process::Abort;
+
+/// Sends two bytes and a descriptor.
+fn send(alloc: Global) -> Result<Step, AllocError> {
+    Ok(Step::Send {
+        on: Fd(0),
+        bytes: Items::of(b"hi".to_vec(alloc)?),
+        attach: Items::of(vec![in alloc; Fd(1)]?),
+    })
+}
+
+/// Returns the nth event: a process starts, and by turns sends an end of a pair to the other, looks
+/// at it, receives it, and closes both.
+fn nth_event(alloc: Global, nth: u32) -> Result<Event, AllocError> {
+    if nth == 0 {
+        return Ok(Event::Spawn {
+            uid: Uid(1_000),
+            nofile: 32,
+            privileged: false,
+        });
+    }
+    let step = match nth % 6 {
+        1 => Step::Pair(SockType::Seqpacket),
+        2 => send(alloc)?,
+        3 => Step::Peek {
+            on: Fd(1),
+            max_bytes: 9,
+            max_fds: 4,
+        },
+        4 => Step::Recv {
+            on: Fd(1),
+            max_bytes: 9,
+            max_fds: 4,
+        },
+        5 => Step::Close(Fd(0)),
+        _ => Step::Close(Fd(1)),
+    };
+    Ok(Event::Proc(Pid(1), step))
+}
 
 /// Makes this call from the seat where the number is even, else under another seat's number.
 fn call(book: &mut Book, seat: &mut Seat, nth: u32, event: Event) -> Result<(), CallError> {
@@ -43,15 +81,8 @@ fn logged_refusals(book: &Book) -> usize {
     refusals
 }
 
-/// Returns whether the book has no seat of this number, and logs no call of it.
-fn has_no_seat(book: &mut Book, seat: u32) -> bool {
-    book.call(seat, spawn()) == Err(CallError::NoSeat) && book.log().is_empty()
-}
-
-/// The book has two seats, from 1. Memory is refused once at most, and the refusal is an error or
-/// an answer. Where there is no seat to call from, nothing is called.
+/// Memory is refused once at most, and the refusal is an error or an answer.
 fn calls(rt: &impl Abort, alloc: Global, book: &mut Book, seats: &mut [Seat]) {
-    assert!(rt; has_no_seat(book, 0) && has_no_seat(book, 3));
     if let Some(seat) = seats.first_mut() {
         let refusals = refusals(alloc, book, seat);
         assert!(rt; refusals.saturating_add(logged_refusals(book)) <= 1);

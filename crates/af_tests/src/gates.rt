@@ -1,8 +1,7 @@
 //! A gate at which the first seat calls before all others, and then waits for them.
-use super::bench::{Play, Script, drive_from, end_of, scripts_of, spawn};
-use af_base::events::{Event, Reply};
-use af_base::ids::Pid;
-use af_layer::{Gate, Layer, Seat, Turns};
+use af_base::events::Event;
+use af_base::ids::Uid;
+use af_layer::{Entry, Gate, Layer, Seat, Turns, drive};
 use std::alloc::{AllocError, Global};
 use std::process::Abort;
 use std::sync::Wait;
@@ -15,6 +14,12 @@ const SEATS: u32 = 64;
 
 /// How many seats wait for the first one.
 const OTHERS: u64 = 63;
+
+/// The collector's calls, as many as each script has.
+const TURNS: Turns = Turns {
+    turns: 2,
+    budget: 8,
+};
 
 /// Counts of a gate at which seat 1 calls first.
 #[derive(Drop)]
@@ -67,52 +72,54 @@ impl Gate for Turnstile {
     }
 }
 
-/// A script of starts.
-struct Starts;
-
-impl Script for Starts {
-    fn event(&self, _alloc: Global, _pid: u32, _turn: u32) -> Result<Event, AllocError> {
-        Ok(spawn())
+/// Returns the event that starts a process.
+fn spawn() -> Event {
+    Event::Spawn {
+        uid: Uid(1_000),
+        nofile: 32,
+        privileged: false,
     }
 }
 
-/// Returns whether the first call from the first seat was the first of all.
-fn was_first(seats: &[Seat]) -> bool {
-    let Some(seat) = seats.first() else {
-        return false;
-    };
-    match seat.list().first() {
-        Some(pair) => *pair.reply() == Reply::Pid(Pid(1)),
-        None => false,
+/// Returns a script of two starts for each seat but the collector's.
+fn scripts(alloc: Global) -> Result<Vec<Vec<Event>>, AllocError> {
+    let mut scripts = Vec::new(alloc);
+    for _ in 1..SEATS {
+        scripts.push(vec![in alloc; spawn(), spawn()]?)?;
     }
+    Ok(scripts)
 }
 
-/// All seats call beside each other, and the first calls first.
-struct Beside;
-
-impl Play for Beside {
-    fn on<R: Abort + Threads + Wait + Sync>(
-        &self,
-        rt: &R,
-        alloc: Global,
-        layer: &Layer,
-        seats: &mut Vec<Seat>,
-    ) -> Option<()> {
-        let turns = Turns {
-            turns: 2,
-            budget: 8,
-        };
-        let scripts = scripts_of(alloc, &Starts, SEATS - 1, 2).ok()?;
-        let turnstile = Turnstile::new();
-        drive_from(rt, layer, seats, scripts, Some(turns), &turnstile).ok()?;
-        assert!(rt; turnstile.failures.load(Ordering::SeqCst) == 0 && was_first(seats));
-        Some(())
-    }
+/// Drives all scripts and the collector through the gate. `None` says that it could not be done.
+fn drive_all<R: Threads + Wait + Sync>(
+    rt: &R,
+    alloc: Global,
+    layer: &Layer,
+    seats: Vec<Seat>,
+    turnstile: &Turnstile,
+) -> Option<Vec<Seat>> {
+    let scripts = scripts(alloc).ok()?;
+    drive(rt, layer, seats, scripts, Some(TURNS), turnstile).ok()
 }
 
-/// All seats are inside at once, no lock is held between two calls, and a gate hears of a call after
-/// it was made. The log has two calls of each seat.
+/// Returns how many entries the log of a driven layer has, and which seat made the first one.
+fn log_behind<R: Threads + Wait + Sync>(
+    rt: &R,
+    alloc: Global,
+    turnstile: &Turnstile,
+) -> Option<(usize, Option<u32>)> {
+    let (layer, seats) = Layer::open(alloc, SEATS).ok()?;
+    let seats = drive_all(rt, alloc, &layer, seats, turnstile)?;
+    let closed = layer.close(seats).ok()?;
+    let log = closed.book.log();
+    Some((log.len(), log.first().map(Entry::seat)))
+}
+
+/// All seats are inside at once, no lock is held between two calls, and a gate hears of a call
+/// after it was made. The log has two calls of each seat.
 #[test]
 fn seats_call_beside_each_other(rt: HostRuntime) {
-    assert!(rt; end_of(&rt, rt.alloc(), SEATS, &Beside) == Some(Ok(128)));
+    let turnstile = Turnstile::new();
+    assert!(rt; log_behind(&rt, rt.alloc(), &turnstile) == Some((128, Some(1))));
+    assert!(rt; turnstile.failures.load(Ordering::SeqCst) == 0);
 }
