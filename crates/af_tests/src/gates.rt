@@ -72,34 +72,40 @@ impl Gate for Turnstile {
     }
 }
 
-/// Returns the event that starts a process.
-fn spawn() -> Event {
-    Event::Spawn {
-        uid: Uid(1_000),
-        nofile: 32,
-        privileged: false,
+/// Returns a script of two starts.
+fn script(alloc: Global) -> Result<Vec<Event>, AllocError> {
+    let mut events = Vec::new(alloc);
+    for _ in 0..2 {
+        events.push(Event::Spawn {
+            uid: Uid(1_000),
+            nofile: 32,
+            privileged: false,
+        })?;
     }
+    Ok(events)
 }
 
-/// Returns a script of two starts for each seat but the collector's.
+/// Returns a script for each seat but the collector's.
 fn scripts(alloc: Global) -> Result<Vec<Vec<Event>>, AllocError> {
     let mut scripts = Vec::new(alloc);
     for _ in 1..SEATS {
-        scripts.push(vec![in alloc; spawn(), spawn()]?)?;
+        scripts.push(script(alloc)?)?;
     }
     Ok(scripts)
 }
 
-/// Drives all scripts and the collector through the gate. `None` says that it could not be done.
-fn drive_all<R: Threads + Wait + Sync>(
+/// Drives all scripts and the collector through the gate. Returns whether that could be done.
+fn is_driven<R: Threads + Wait + Sync>(
     rt: &R,
     alloc: Global,
     layer: &Layer,
     seats: Vec<Seat>,
     turnstile: &Turnstile,
-) -> Option<Vec<Seat>> {
-    let scripts = scripts(alloc).ok()?;
-    drive(rt, layer, seats, scripts, Some(TURNS), turnstile).ok()
+) -> bool {
+    match scripts(alloc) {
+        Ok(scripts) => drive(rt, layer, seats, scripts, Some(TURNS), turnstile).is_ok(),
+        Err(_) => false,
+    }
 }
 
 /// Returns how many entries the log of a driven layer has, and which seat made the first one.
@@ -109,9 +115,11 @@ fn log_behind<R: Threads + Wait + Sync>(
     turnstile: &Turnstile,
 ) -> Option<(usize, Option<u32>)> {
     let (layer, seats) = Layer::open(alloc, SEATS).ok()?;
-    let seats = drive_all(rt, alloc, &layer, seats, turnstile)?;
-    let closed = layer.close(seats).ok()?;
-    let log = closed.book.log();
+    if !is_driven(rt, alloc, &layer, seats, turnstile) {
+        return None;
+    }
+    let book = layer.into_book();
+    let log = book.log();
     Some((log.len(), log.first().map(Entry::seat)))
 }
 
