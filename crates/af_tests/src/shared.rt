@@ -1,4 +1,5 @@
-//! Calls on an engine that threads share: each does its event.
+//! Calls on an engine that threads share: each does its event. The helpers return whether all their
+//! calls are answered so.
 use af_base::errno::Errno;
 use af_base::events::{Event, Reply, SockType, Step};
 use af_base::ids::{Fd, Pid, Uid};
@@ -11,7 +12,7 @@ use std::sync::Wait;
 /// The process that makes the calls.
 const PID: Pid = Pid(1);
 
-/// Its descriptors are 0 to 2 and 5 then, of two files.
+/// Opens, duplicates and closes files under two limits. The process has 0, 1, 2 and 5 then.
 fn does_files<R: Wait>(rt: &R, shared: &Shared) -> bool {
     shared.spawn(rt, Uid(7), 16, false) == Ok(PID)
         && shared.open(rt, PID) == Ok(Fd(0))
@@ -25,7 +26,7 @@ fn does_files<R: Wait>(rt: &R, shared: &Shared) -> bool {
         && shared.limit(rt, PID, 16).is_ok()
 }
 
-/// A child starts and ends, which leaves its parent alone.
+/// Starts a child, which closes a descriptor of its own and ends.
 fn does_processes<R: Wait>(rt: &R, shared: &Shared) -> bool {
     shared.fork(rt, PID) == Ok(Pid(2))
         && shared.close(rt, Pid(2), Fd(5)).is_ok()
@@ -33,7 +34,7 @@ fn does_processes<R: Wait>(rt: &R, shared: &Shared) -> bool {
         && shared.exit(rt, Pid(2)) == Err(Errno::ESRCH)
 }
 
-/// A pair has numbers 3 and 4, a listener 6, its client 7, and the embryo that is accepted 8.
+/// Makes a pair at 3 and 4, a listener at 6 and its client at 7, and accepts their connection at 8.
 fn does_sockets<R: Wait>(rt: &R, shared: &Shared) -> bool {
     shared.pair(rt, PID, SockType::Stream) == Ok((Fd(3), Fd(4)))
         && shared.socket(rt, PID, SockType::Stream) == Ok(Fd(6))
@@ -54,7 +55,8 @@ fn has_come(received: Result<Received, Errno>, wanted: &[u8], at: Fd) -> bool {
     }
 }
 
-/// Two messages pass through the pair, each with a file, and the second one twice.
+/// Sends a message through the pair, and one from the client, which is peeked before. Each has a
+/// file.
 fn does_messages<R: Wait>(rt: &R, alloc: Global, shared: &Shared) -> Result<bool, AllocError> {
     let bytes = Items::of(b"cd".to_vec(alloc)?);
     let is_sent = shared.send(rt, PID, Fd(3), b"ab", &[Fd(1)]) == Ok(2)
@@ -67,7 +69,7 @@ fn does_messages<R: Wait>(rt: &R, alloc: Global, shared: &Shared) -> Result<bool
     )
 }
 
-/// A socket is in its own queue alone, and passes take it.
+/// Leaves socket 8 in its own queue alone, and collects it in slices. A whole pass follows.
 fn does_passes<R: Wait>(rt: &R, shared: &Shared) -> bool {
     let first = Finished {
         pass: 1,
@@ -86,14 +88,14 @@ fn does_passes<R: Wait>(rt: &R, shared: &Shared) -> bool {
         && shared.pass(rt) == Ok(second)
 }
 
-/// The calls for all events, by which the process ends at last.
+/// Does events by the calls for all of them. The last one ends the process.
 fn does_events<R: Wait>(rt: &R, shared: &Shared) -> bool {
     shared.step(rt, &Event::Proc(PID, Step::Open)) == Reply::Fd(Fd(8))
         && shared.step_owned(rt, Event::Proc(PID, Step::Dup(Fd(8)))) == Reply::Fd(Fd(12))
         && shared.step_owned(rt, Event::Proc(PID, Step::Exit)) == Reply::Ok
 }
 
-/// Makes each call. Returns whether each did its event.
+/// Makes each call.
 fn does_all<R: Wait>(rt: &R, alloc: Global, shared: &Shared) -> Result<bool, AllocError> {
     Ok(
         does_files(rt, shared)
@@ -105,6 +107,7 @@ fn does_all<R: Wait>(rt: &R, alloc: Global, shared: &Shared) -> Result<bool, All
     )
 }
 
+/// A sequence of calls, of each kind, is answered as its events are, and leaves nothing.
 #[test]
 fn calls_do_their_events(rt: HostRuntime) -> Result<(), AllocError> {
     let shared = Shared::new(rt.alloc())?;
