@@ -1,3 +1,5 @@
+-- The language of scripts.
+pub mod Lines
 -- The history of a watched reader or writer.
 pub mod WatchedView
 pub mod Watched

@@ -1,8 +1,8 @@
 //! A script that is played line by line, for its author to see: each line with its number and its
 //! answer beside it, and of a line that cannot be read why.
 //!
-//! A caller wants [`play`], [`Style`] and [`PlayFault`]. Each line is read by `scm_lines` and done
-//! as in a run (`scm_run`). `own` has the lines that only a played script has, `who` the answer
+//! A caller wants [`play`], [`Style`] and [`PlayFault`]. Each line is read and done as in a run
+//! (`scm_run`). `own` has the lines that only a played script has, `who` the answer
 //! to one, and `show` the layout.
 
 mod answers;
