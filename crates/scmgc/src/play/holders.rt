@@ -2,7 +2,7 @@
 
 use af_base::ids::{Fd, Ino, Pid};
 use af_base::listing::{ListedFile, ListedTable};
-use std::alloc::AllocError;
+use std::alloc::{AllocError, Global};
 
 /// A place that holds a file.
 #[derive(Clone, Copy)]
@@ -65,9 +65,8 @@ fn push_backlog(list: &mut Vec<HeldFile>, file: &ListedFile) -> Result<(), Alloc
     Ok(())
 }
 
-/// Appends all places, by the number of the file that they hold. Of one file, descriptors come
-/// first, then queues, then backlogs, each by rising numbers.
-pub fn push_places(
+/// Appends the places in the tables, then those in the queues, then those in the backlogs.
+fn push_places(
     list: &mut Vec<HeldFile>,
     tables: &[ListedTable],
     files: &[ListedFile],
@@ -81,5 +80,18 @@ pub fn push_places(
     for file in files {
         push_backlog(list, file)?;
     }
-    list.sort_by_key(|held| held.ino.0)
+    Ok(())
+}
+
+/// Returns all places, by the number of the file that they hold. Of one file, descriptors come
+/// first, then queues, then backlogs, each by rising numbers.
+pub fn places_of(
+    alloc: Global,
+    tables: &[ListedTable],
+    files: &[ListedFile],
+) -> Result<Vec<HeldFile>, AllocError> {
+    let mut list = Vec::new(alloc);
+    push_places(&mut list, tables, files)?;
+    list.sort_by_key(|held| held.ino.0)?;
+    Ok(list)
 }

@@ -1,7 +1,8 @@
 //! The text of who holds what.
 
-use crate::play::holders::{HeldFile, Holder, push_places};
+use crate::play::holders::{HeldFile, Holder, places_of};
 use af_base::ids::Ino;
+use af_base::listing::{ListedFile, ListedTable};
 use af_plain::garbage;
 use af_steps::Engine;
 use std::alloc::{AllocError, Global};
@@ -44,6 +45,35 @@ fn push_file(text: &mut String, ino: Ino, lost: &[Ino]) -> Result<(), AllocError
     }
 }
 
+/// Appends a line for each file, with its places; the places are by rising file.
+fn push_files(
+    text: &mut String,
+    files: &[ListedFile],
+    lost: &[Ino],
+    places: &[HeldFile],
+) -> Result<(), AllocError> {
+    let mut rest = places;
+    for file in files {
+        push_file(text, file.ino, lost)?;
+        rest = push_holders(text, file.ino, rest)?;
+        text.push_str("\n")?;
+    }
+    Ok(())
+}
+
+/// Makes the lines of these files, with the places in these tables and files.
+fn text_of(
+    alloc: Global,
+    tables: &[ListedTable],
+    files: &[ListedFile],
+    lost: &[Ino],
+) -> Result<Vec<u8>, AllocError> {
+    let places = places_of(alloc, tables, files)?;
+    let mut text = String::new(alloc);
+    push_files(&mut text, files, lost, places.as_slice())?;
+    Ok(text.into_bytes())
+}
+
 /// Lists the files of the engine's world by rising number, a line for each: its number, whether it
 /// is garbage, which no process can reach, and each place that holds it.
 ///
@@ -53,14 +83,5 @@ fn push_file(text: &mut String, ino: Ino, lost: &[Ino]) -> Result<(), AllocError
 pub fn holders(alloc: Global, engine: &Engine) -> Result<Vec<u8>, AllocError> {
     let listing = engine.listing()?;
     let lost = garbage(alloc, &listing)?;
-    let mut places = Vec::new(alloc);
-    push_places(&mut places, listing.tables(), listing.files())?;
-    let mut text = String::new(alloc);
-    let mut rest = places.as_slice();
-    for file in listing.files() {
-        push_file(&mut text, file.ino, lost.as_slice())?;
-        rest = push_holders(&mut text, file.ino, rest)?;
-        text.push_str("\n")?;
-    }
-    Ok(text.into_bytes())
+    text_of(alloc, listing.tables(), listing.files(), lost.as_slice())
 }
