@@ -72,10 +72,10 @@ fn race_text<H: Threads + Wait + Sync>(
         RaceText race.workers race.steps race.seed race.budget (string_bytes text)) }
 {
     let outcome = race.run(rt, alloc)?;
-    let text = outcome.text(alloc);
+    let totals = outcome.totals();
     // Dropped by a call: at the end of the block each part would be dropped, and proved, by itself.
     drop(outcome);
-    Ok(text?)
+    Ok(totals.text(alloc)?)
 }
 
 /// Runs a race with checkpoints, and returns its text.
@@ -89,8 +89,8 @@ fn long_race_text<H: Threads + Wait + Sync>(
     ensures { let race = long.race in IfOk result (λ text.
         LongRaceText race.workers race.steps race.seed race.budget (string_bytes text)) }
 {
-    let tally = long.run(rt, alloc)?;
-    Ok(tally.text(alloc)?)
+    let totals = long.run(rt, alloc)?;
+    Ok(totals.text(alloc)?)
 }
 
 /// Lets workers race, with checkpoints if there are any, and makes the lines.

@@ -1,19 +1,20 @@
 //! A race of any length: its log is taken at checkpoints.
-ghost use Rattle.std.specs.Prelude.{◌≡◌, ◌≤◌, ◌+◌, ◌*◌, ℕ, IfOk, length, string_bytes};
+ghost use Rattle.std.specs.Prelude.{◌≡◌, ◌≤◌, ◌+◌, ◌*◌, ℕ, IfOk, length};
 ghost use Rattle.std.specs.FinMap as map;
 ghost use Rattle.af_layer.specs.Log.{BookView};
 ghost use Rattle.scmgc.specs.Race.Parts.{AreFresh, AreLeft, Continues};
-ghost use Rattle.scmgc.specs.Race.{RacedInParts, race_lines, worker_steps};
+ghost use Rattle.scmgc.specs.Race.{RacedInParts, worker_steps};
 ghost use Rattle.scmgc.specs.declared.race.workload.script.TheConstants.{MIN_STEPS};
 ghost use Rattle.scmgc.specs.declared.race.workload.table.TheConstants.{MAX_WORKERS};
 
 use crate::race::fault::RaceFault;
+use crate::race::outcome::RaceTotals;
 use crate::race::part::{Field, last_part, open_field, race_part};
 use crate::race::start::{next_parts, sources};
 use crate::race::whole::Race;
 use crate::race::workload::Source;
 use af_layer::Turns;
-use std::alloc::{AllocError, Global};
+use std::alloc::Global;
 use std::marker::Brand;
 use std::sync::Wait;
 use std::thread::Threads;
@@ -33,15 +34,6 @@ pub struct LongRace {
     /// How many events the workers do from one checkpoint to the next, 1 to 250,000: each does its
     /// share, and one at least.
     pub checkpoint: u32,
-}
-
-/// The totals of a long race. Each audit ended well.
-#[derive(Clone, Copy)]
-pub struct RaceTotals {
-    /// How many events the workers did, counted in the logs.
-    pub steps: u64,
-    /// How many files are live at the end.
-    pub left: usize,
 }
 
 impl LongRace {
@@ -119,17 +111,5 @@ impl LongRace {
             budget: self.race.budget,
         };
         race_part::<Brand, R>(rt, field, scripts, turns)
-    }
-}
-
-impl RaceTotals {
-    /// Writes the three lines that tell the race. The error says that memory was refused.
-    pub fn text(&self, alloc: Global) -> Result<String, AllocError>
-        ensures { IfOk result (λ text.
-            string_bytes text ≡ race_lines self.now.steps self.now.left) }
-    {
-        let steps = self.steps;
-        let left = self.left;
-        format!(in alloc; "steps {steps}\naudit ok\nleft {left}\n")
     }
 }

@@ -1,7 +1,7 @@
 //! The outcome of a race.
 ghost use Rattle.std.specs.Prelude.{◌≡◌, IfOk, string_bytes};
 ghost use Rattle.std.specs.FinMap as map;
-ghost use Rattle.scmgc.specs.Race.{outcome_text, worker_steps};
+ghost use Rattle.scmgc.specs.Race.{race_lines, worker_steps};
 
 use af_layer::{Closed, Entry};
 use std::alloc::{AllocError, Global};
@@ -18,6 +18,15 @@ pub struct RaceOutcome {
     pub closed: Closed,
 }
 
+/// The totals of a race. Each audit ended well.
+#[derive(Clone, Copy)]
+pub struct RaceTotals {
+    /// How many events the workers did, counted in the log or logs.
+    pub steps: u64,
+    /// How many files are live at the end.
+    pub left: usize,
+}
+
 /// Returns how many entries of a log are of the seats from 1 to this number.
 pub fn steps_up_to(log: &[Entry], workers: u32) -> usize
     ensures { result ≡ worker_steps workers log.now }
@@ -26,27 +35,26 @@ pub fn steps_up_to(log: &[Entry], workers: u32) -> usize
 }
 
 impl RaceOutcome {
-    /// Counts the events that the workers did.
-    pub fn steps(&self) -> usize
-        ensures { result ≡ worker_steps self.now.workers self.now.closed.book.log }
+    /// Counts the events that the workers did, and the files that are live at the end.
+    pub fn totals(&self) -> RaceTotals
+        ensures steps { result.steps ≡ worker_steps self.now.workers self.now.closed.book.log }
+        ensures left { result.left ≡ map.len self.now.closed.book.machine.world.files }
     {
-        steps_up_to(self.closed.book.log(), self.workers)
+        RaceTotals {
+            steps: steps_up_to(self.closed.book.log(), self.workers) as u64,
+            left: self.closed.book.engine().live(),
+        }
     }
+}
 
-    /// Returns how many files are live at the end.
-    pub fn live_files(&self) -> usize
-        ensures { result ≡ map.len self.now.closed.book.machine.world.files }
-    {
-        self.closed.book.engine().live()
-    }
-
+impl RaceTotals {
     /// Writes the three lines that tell the race. The error says that memory was refused.
     pub fn text(&self, alloc: Global) -> Result<String, AllocError>
         ensures { IfOk result (λ text.
-            string_bytes text ≡ outcome_text self.now.workers self.now.closed.book) }
+            string_bytes text ≡ race_lines self.now.steps self.now.left) }
     {
-        let steps = self.steps();
-        let left = self.live_files();
+        let steps = self.steps;
+        let left = self.left;
         format!(in alloc; "steps {steps}\naudit ok\nleft {left}\n")
     }
 }

@@ -4,7 +4,7 @@ use Rattle.scmgc.proofs.program.long_race_text.Goals as goal
 
 pub returns : goal.returns
 returns g c =
-    let told = c.in_ok-tally.ensures in
+    let told = c.in_ok-totals.ensures in
     record {
       book = told.0;
       raced = told.1;
