@@ -150,7 +150,7 @@ slice 1
 slice 65536
 pass
 """
-# Of a layer's entries, one for each seat is its start. There may be 1,048,576: the first layer has so many.
+# A log has room for 1,048,576 entries. The start of a seat takes one, so the first form fills a log.
 CALLS = ["layer 1 1048575 3", "layer 4 500 3", "batches 1 1048560 3", "shared 4 2000 3", "engine 10 3", "lock 10 3"]
 BENCHMARKS = [("script 1 4 3", SHORT), ("script 1 7 3", EACH_EVENT), *((it, b"") for it in CALLS)]
 # The last call finds no room for its entry.

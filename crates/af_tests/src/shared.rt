@@ -107,7 +107,7 @@ fn does_all<R: Wait>(rt: &R, alloc: Global, shared: &Shared) -> Result<bool, All
     )
 }
 
-/// A sequence of calls, of each kind, is answered as its events are, and leaves nothing.
+/// Makes calls of each kind, which are answered as their events are, and leave no file.
 #[test]
 fn calls_do_their_events(rt: HostRuntime) -> Result<(), AllocError> {
     let shared = Shared::new(rt.alloc())?;
