@@ -1,11 +1,11 @@
 -- Lists of places that are gathered item by item: what they count is what the world counts.
-use Rattle.std.proofs.Common.{◌≡◌, ◌≤◌, ℕ, Bool, true, false, List, [], ◌∷◌, ◌++◌, length, take, refl, sym, ap, ◌∙◌, arith, cond, nat_eq}
+use Rattle.std.proofs.Common.{◌≡◌, ◌<◌, ◌≤◌, ◌+◌, ℕ, Bool, true, false, List, [], ◌∷◌, ◌++◌, length, get_or, take, refl, sym, ap, ◌∙◌, arith, cond, nat_eq}
 use Rattle.std.specs.Prelude.{Some}
 use Rattle.std.specs.Option.{option_map_or}
 use Rattle.std.specs.List.{All, flat_map, sum_by}
 use Rattle.std.specs.List.Sorted.{IsPermutation, IsSorted}
 use Rattle.std.specs.Ordering.{nat_cmp}
-use Rattle.std.proofs.lemmas.List.{take_all}
+use Rattle.std.proofs.lemmas.List.{flat_map_more, take_all, take_more}
 use Rattle.std.proofs.lemmas.List.Concat.{length-flat_map}
 use Rattle.std.proofs.lemmas.List.Elements.{All-head, All-tail}
 use Rattle.std.proofs.lemmas.List.Folds.{flat_map-map}
@@ -23,6 +23,11 @@ use Rattle.af_base.proofs.MapsOfLists.{keyed-total, sum_by-mapped}
 -- The list gathered from all items.
 pub gathered : {A : Type 0} (h : A → List ℕ) (xs : List A) (i : ℕ) (start new all : List ℕ) → length xs ≤ i → new ≡ start ++ flat_map h (take i xs) → flat_map h xs ≡ all → new ≡ start ++ all
 gathered h xs i start new all end so_far is = so_far ∙ ap (λ ys. start ++ flat_map h ys) (take_all i xs end) ∙ ap (λ ys. start ++ ys) is
+
+-- The list gathered from one item more.
+pub gathered_next : {A : Type 0} (h : A → List ℕ) (xs : List A) (i : ℕ) (x : A) (start now new : List ℕ) → i < length xs → x ≡ get_or xs i x → now ≡ start ++ flat_map h (take i xs) → new ≡ now ++ h x → new ≡ start ++ flat_map h (take (i + 1) xs)
+gathered_next h xs i x start now new more is so_far one =
+    one ∙ ap (λ ys. ys ++ h x) so_far ∙ flat_map_more h start (take i xs) x ∙ ap (λ ys. start ++ flat_map h ys) (ap (λ y. take i xs ++ y ∷ []) is ∙ sym (take_more xs i x more))
 
 module _ {X : Type 0} (F G : X → ℕ) where
   -- Two sums whose items agree are equal.
