@@ -1,4 +1,4 @@
-use Rattle.std.proofs.Common.{◌++◌, ◌∙◌}
+use Rattle.std.proofs.Common.{rules, ◌++◌, ◌∙◌}
 use Rattle.af_base.specs.declared.events.Step.TheVariants as step
 use Rattle.af_base.specs.Names.{named}
 use Rattle.af_base.specs.Refusals.{on_bind, on_name, socket_on}
@@ -23,3 +23,6 @@ returns-in_err-check_bind-clause-refused c =
     let e = c.in_err-check_bind.field-0.0 in
     turned-down c.self.view_is c.args.pid (step.Bind c.args.on name) c.from_residual-in_err-check_bind.result e c.from_residual-in_err-check_bind.ensures.1
     (after-socket c.in_ok-file.ensures.found (λ r look s. on_bind s name ++ on_name (named w.files name)) ∙ goes-on (on_bind x name) (on_name (named w.files name)) e c.in_err-check_bind.ensures.err)
+
+pub bind-requires-clause-free : goal.bind-requires-clause-free
+bind-requires-clause-free c = search rules

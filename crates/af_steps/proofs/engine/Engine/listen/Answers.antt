@@ -1,4 +1,4 @@
-use Rattle.std.proofs.Common.{◌∙◌}
+use Rattle.std.proofs.Common.{rules, ◌∙◌}
 use Rattle.af_base.specs.declared.events.Step.TheVariants as step
 use Rattle.af_base.specs.Refusals.{on_listen, socket_on}
 use Rattle.af_steps.proofs.LookupRows.{after-socket, no-socket}
@@ -16,3 +16,6 @@ pub returns-in_err-check_listen-clause-refused : goal.returns-in_err-check_liste
 returns-in_err-check_listen-clause-refused c =
     turned-down c.self.view_is c.args.pid (step.Listen c.args.on c.args.backlog) c.from_residual-in_err-check_listen.result c.in_err-check_listen.field-0.0 c.from_residual-in_err-check_listen.ensures.1
     (after-socket c.in_ok-file.ensures.found (λ r look s. on_listen s c.args.backlog) ∙ c.in_err-check_listen.ensures.err)
+
+pub returns-clause-done : goal.returns-clause-done
+returns-clause-done c = search rules

@@ -14,3 +14,6 @@ pub returns-in_default-clause-done : goal.returns-in_default-clause-done
 returns-in_default-clause-done c =
     let end : HasEnd c.self.inside.store.world c.args.pid c.args.on c.args.max_bytes c.args.max_fds = search rules in
     recv-end c.self.view_is end c.self.invariant.0
+
+pub returns-clause-done : goal.returns-clause-done
+returns-clause-done c = search rules
