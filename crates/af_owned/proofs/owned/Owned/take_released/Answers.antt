@@ -1,4 +1,4 @@
-use Rattle.std.proofs.Common.{◌≡◌, ◌<◌, ◌∙◌, ap, false, subst, sym}
+use Rattle.std.proofs.Common.{rules, ◌≡◌, ◌<◌, ◌∙◌, ap, false, subst, sym}
 use Rattle.std.specs.FinMap as map
 use Rattle.std.specs.Option.{OnSome}
 use Rattle.std.specs.Prelude.{None, Option, Some}
@@ -30,3 +30,12 @@ returns-clause-fewer g c =
     let vs = c.args.self.now.values in
     let at : c.remove.new.self.values ≡ map.remove vs k = ap (λ (s : OrderedSlabView g.row.T.Denot). s.values) c.remove.ensures.removed ∙ ap (λ (o : OwnedView g.row.T.Denot). map.remove o.values k) c.self.view_is in
     on_some c.remove.result (subst (λ (n : Map g.row.T.Denot). map.len n < map.len vs) (sym at) (taken-fewer vs k c.in-Some.ensures.some.0))
+
+pub returns-clause-none : goal.returns-clause-none
+returns-clause-none g c = search rules
+
+pub returns-clause-some : goal.returns-clause-some
+returns-clause-some g c = search rules
+
+pub returns-in_default-clause-cleared : goal.returns-in_default-clause-cleared
+returns-in_default-clause-cleared g c = search rules
