@@ -1,14 +1,17 @@
 use Rattle.std.proofs.Common.{rules, sym, ap, subst, arith, ◌∙◌, ◌∷◌, []}
+use Rattle.af_base.specs.Changes.{install}
 use Rattle.af_base.specs.World.{IsLive, World}
 use Rattle.af_collect.specs.Keeping.{NotBegunGarbage}
+use Rattle.af_collect.specs.StoreView.{StoreView}
 use Rattle.af_steps.specs.Found.{HasNumber}
-use Rattle.af_steps.proofs.LookupRows.{below-limit, held, in-same, is-free, is-there, room-below, after-number}
-use Rattle.af_steps.proofs.Numbers.{IsLowest, least-low, not-open, none-free}
+use Rattle.af_steps.proofs.LookupRows.{below-limit, held, ino-is, in-same, is-free, is-there, room-below, after-number}
+use Rattle.af_steps.proofs.Numbers.{IsLowest, is-free_at, least-low, not-open, not-short, none-free}
 use Rattle.std.specs.Prelude.{Some}
+use Rattle.af_base.specs.declared.events.Reply.TheVariants as reply
 use Rattle.af_base.specs.declared.events.Step.TheVariants as step
 use Rattle.af_base.specs.declared.errno.Errno.TheVariants.{EMFILE}
 use Rattle.af_base.specs.Refusals.{first_fit, on_free}
-use Rattle.af_steps.proofs.Outcomes.{missing, turned-down}
+use Rattle.af_steps.proofs.Outcomes.{does, missing, turned-down}
 use Rattle.af_steps.proofs.engine.Engine.dup.Goals as goal
 
 pub returns-in_err-fd-clause-refused : goal.returns-in_err-fd-clause-refused
@@ -35,3 +38,13 @@ table_in-requires c =
       live = subst (λ v. IsLive v f) (sym c.room_for.ensures.world) (c.self.invariant.0.whole.tables_live f (held has));
       spared = subst (λ s. NotBegunGarbage s f) (sym c.room_for.ensures.pass) (c.lemma_is_spared.ensures f (held has));
     }
+
+pub returns-clause-done : goal.returns-clause-done
+returns-clause-done c =
+    let q = c.in_ok-process.process.now.process in
+    let has : HasNumber c.self.inside.store.world c.args.pid q c.args.from c.in_ok-file.file = record { process = record { there = search rules }; stands = search rules } in
+    let least : IsLowest q c.in_ok-fd.fd = record { read = search rules } in
+    let fits = after-number has (λ r. on_free r 1) ∙ ap (λ b. first_fit ((b, EMFILE) ∷ [])) (not-short least) in
+    let number = is-free_at least has.process in
+    let leads = (λ i. install (sym c.room_for.ensures.world i) c.args.pid (number i) (ino-is has i)) ∙ sym (ap (λ (s : StoreView). s.world) c.table_in.ensures) in
+    does c.self.view_is c.args.pid (step.Dup c.args.from) c.release.new.self (reply.Fd c.in_ok-fd.fd) c.table_in.new.self.world fits (ap reply.Fd number) leads c.release.ensures.settles (c.release.ensures.pass ∙ ap (λ (s : StoreView). s.pass) c.table_in.ensures ∙ c.room_for.ensures.pass) (c.release.ensures.since ∙ ap (λ (s : StoreView). s.since) c.table_in.ensures ∙ c.room_for.ensures.since)

@@ -36,6 +36,3 @@ loop-event-preserved c = (
   run-more c.args.self.now c.loop-event.self c.step-reply.new.self c.args.events.now c.loop-event.done.items c.push_reserved.new.self.items c.loop-event.event-index c.event-item.result c.step-reply.result
       c.loop-event.invariant.0 (search rules) c.event-item.is c.loop-event.invariant.1 c.step-reply.ensures (search rules),
 )
-
-pub returns-then-is_err-clause-whole : goal.returns-then-is_err-clause-whole
-returns-then-is_err-clause-whole c = search rules
