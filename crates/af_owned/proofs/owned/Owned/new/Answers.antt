@@ -1,4 +1,4 @@
-use Rattle.std.proofs.Common.{rules, ◌∙◌, false, true, ap, subst, sym}
+use Rattle.std.proofs.Common.{◌∙◌, false, true, ap, subst, sym}
 use Rattle.std.specs.FinMap as map
 use Rattle.af_base.specs.Pass.{Machine}
 use Rattle.af_owned.specs.OwnedView.{AreOwned}
@@ -13,4 +13,6 @@ invariant_of-result g c =
     (subst (λ vs. AreOwned n vs 0) (sym c.new-2.ensures.values) (subst (λ (m : Machine). AreOwned m map.empty 0) (sym is) (owned-new false)))
 
 pub returns-clause-machine : goal.returns-clause-machine
-returns-clause-machine g c = search rules
+returns-clause-machine g c =
+    let keep = λ (m : Machine). record m { since = c.tell_released.new.self.since } in
+    ap keep c.in_ok-tell_released.ensures.ok ∙ ap keep c.in_ok-engine.ensures
