@@ -1,4 +1,4 @@
-use Rattle.std.proofs.Common.{◌≡◌, refl}
+use Rattle.std.proofs.Common.{rules, ◌≡◌, refl}
 use Rattle.std.specs.Prelude.{None, Option, Some}
 use Rattle.af_base.specs.World.{Socket}
 use Rattle.af_desc.specs.Holding.{without_popped}
@@ -15,3 +15,6 @@ same-name None s = refl
 
 pub invariant_of-self : goal.invariant_of-self
 invariant_of-self c = socket_changed c.self.inside.rows c.pop.new.self _ _ _ _ _ _ _ c.self.invariant c.args.file.now (without_popped c.pop.result) (same-name c.pop.result) c.pop.ensures.rest
+
+pub returns-clause-popped : goal.returns-clause-popped
+returns-clause-popped c = search rules
