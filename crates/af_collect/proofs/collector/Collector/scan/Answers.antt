@@ -1,4 +1,4 @@
-use Rattle.std.proofs.Common.{◌+◌, sym, subst}
+use Rattle.std.proofs.Common.{rules, ◌+◌, sym, subst}
 use Rattle.af_base.specs.Places.{held_by}
 use Rattle.af_collect.specs.HoldingsView.{HoldingsView}
 use Rattle.af_collect.specs.Keeping.{PassInvariant}
@@ -17,3 +17,6 @@ returns-clause-kept c =
     subst (λ (s : HoldingsView). PassInvariant s.world now.begun.value.world s.marks d) (sym e.1)
     (subst (λ m. PassInvariant now.holdings.world now.begun.value.world m d) (sym (shaded_all_after (held_by now.holdings.world x) now.holdings.marks x e.0))
     (kept_scan now.holdings.marks now.progress x c.lemma_is_whole.ensures.whole r.marking e.0 r.kept))
+
+pub returns-in_default-clause-progress : goal.returns-in_default-clause-progress
+returns-in_default-clause-progress c = search rules

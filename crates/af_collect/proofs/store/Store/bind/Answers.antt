@@ -1,4 +1,4 @@
-use Rattle.std.proofs.Common.{◌≡◌, None, refl, subst}
+use Rattle.std.proofs.Common.{rules, ◌≡◌, None, refl, subst}
 use Rattle.af_base.specs.Changes.{with_name}
 use Rattle.af_base.specs.Names.{named}
 use Rattle.af_base.specs.World.{World}
@@ -25,3 +25,6 @@ invariant_of-holdings c = (both c).0
 
 pub invariant_of-self : goal.invariant_of-self
 invariant_of-self c = (both c).1
+
+pub returns-clause-ok : goal.returns-clause-ok
+returns-clause-ok c = search rules

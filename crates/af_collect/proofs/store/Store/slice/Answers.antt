@@ -1,4 +1,4 @@
-use Rattle.std.proofs.Common.{◌∙◌, ap, subst, sym}
+use Rattle.std.proofs.Common.{rules, ◌∙◌, ap, subst, sym}
 use Rattle.af_base.specs.declared.events.Reply.TheVariants as reply
 use Rattle.af_base.specs.Pass.{Idle, Slices}
 use Rattle.af_collect.proofs.VisiblePass.{slices_done, seen_begun}
@@ -20,3 +20,6 @@ returns-clause-does c = λ begun spent pass e.
     (subst (λ (s : StoreView). Slices begun s.world spent c.args.budget pass (reply.Done pass n) v Idle) c.self.view_is
     (subst (λ x. Slices x p.holdings.world spent c.args.budget pass (reply.Done pass n) v Idle) is
     (slices_done b b p.holdings.world v spent 0 c.args.budget pass n u.purged (u.gone c.if-not-do_units.false) (u.counted c.if-not-do_units.false))))
+
+pub returns-clause-rises : goal.returns-clause-rises
+returns-clause-rises c = search rules

@@ -1,4 +1,4 @@
-use Rattle.std.proofs.Common.{◌∙◌, ◌∷◌, ◌≡◌, ℕ, ap, drop, refl, subst, sym, true}
+use Rattle.std.proofs.Common.{rules, ◌∙◌, ◌∷◌, ◌≡◌, ℕ, ap, drop, refl, subst, sym, true}
 use Rattle.std.specs.Prelude.{IfSome, Some, slice_get}
 use Rattle.af_base.specs.Changes.{dequeued, install, with_socket}
 use Rattle.af_base.specs.Places.{backlog_at}
@@ -72,3 +72,6 @@ invariant_of-holdings c = (both c).0
 
 pub invariant_of-self : goal.invariant_of-self
 invariant_of-self c = (both c).1
+
+pub returns : goal.returns
+returns c = search rules
