@@ -1,4 +1,4 @@
-use Rattle.std.proofs.Common.{◌≤◌, ◌-◌, ◌++◌, drop, length, take, take_all, sym, ap, ◌∙◌, subst, arith}
+use Rattle.std.proofs.Common.{rules, ◌≤◌, ◌-◌, ◌++◌, drop, length, take, take_all, sym, ap, ◌∙◌, subst, arith}
 use Rattle.std.proofs.lemmas.Grind.{common_steps}
 use Rattle.std.proofs.lemmas.List.{length-drop}
 use Rattle.af_base.specs.Places.{attached_in}
@@ -12,6 +12,9 @@ returns-then-is_full-clause-few c =
     let few = carried_few _ c.self.invariant.2 in
     let most = c.self.invariant.1 in
     omega (arith, few, most, c.self.invariant.0, ap (λ q. length (attached_in q)) c.self.view_is)
+
+pub loop-message-init : goal.loop-message-init
+loop-message-init c = search rules
 
 pub loop-message-preserved : goal.loop-message-preserved
 loop-message-preserved c =
