@@ -13,3 +13,6 @@ pub returns-clause-rows : goal.returns-clause-rows
 returns-clause-rows c =
     let updates : hash.Updates nat_eq c.self.inside.processes c.insert.new.self c.self.inside.next_pid (Some c.args.process) = search rules in
     rows_inserted c.self.inside.processes c.insert.new.self c.self.inside.next_pid c.args.process updates ∙ ap (λ s. map.insert s.rows s.next_pid c.args.process.row) c.self.view_is
+
+pub returns-in_err-insert-clause-err : goal.returns-in_err-insert-clause-err
+returns-in_err-insert-clause-err c = search rules
