@@ -5,6 +5,7 @@ use Rattle.std.specs.Str.{bytes_eq}
 use Rattle.std.specs.Str.Parse.{IsNumeral, digits_value, without_leading_plus}
 use Rattle.clap.specs.Words.{App, Row, Rule, Text, fault_of, first_of, new_app, new_rule, one_of, subcommand_of, with_rule, with_subcommand}
 use Rattle.clap.specs.declared.builder.value_parser.ValueParser.TheVariants.{Signed}
+use Rattle.scmgc.specs.declared.task.NumberOption.{NumberOption}
 use Rattle.scmgc.specs.declared.task.Task.{Task}
 use Rattle.scmgc.specs.declared.task.Task.TheVariants.{Play, Race, Run}
 
@@ -33,6 +34,12 @@ checkpoint_rule = record (new_rule (codes "checkpoint")) {
   defaults = codes "0" ∷ [];
   parser = Some (Signed (pos 0) (pos 250000));
 }
+
+-- The command with these options behind its others.
+abbrev pub with_numbers : List NumberOption → App → App
+with_numbers [] app = app
+with_numbers (option ∷ options) app =
+    with_numbers options (with_rule app (number_rule option.name.now option.least option.most))
 
 -- The subcommand of a race, with its five options.
 abbrev pub race_app : App

@@ -4,12 +4,12 @@ ghost use Rattle.std.specs.Prelude.{false, true, map};
 ghost use Rattle.std.specs.Borrow.{Bor};
 ghost use Rattle.std.specs.Option.{option_map};
 ghost use Rattle.clap.specs.Words.{app_of, first_of, found_of, kind_of, rows_of, rule_of};
-ghost use Rattle.clap.specs.Words.{subcommand_rows_of, with_rule};
+ghost use Rattle.clap.specs.Words.{subcommand_rows_of};
 ghost use Rattle.clap.specs.declared.builder.command.Command.TheViews.{out-Command};
 ghost use Rattle.clap.specs.declared.error.kind.ErrorKind.TheVariants.{OutOfMemory};
 ghost use Rattle.scmgc.specs.Task.{HasNumber, IsInRange, IsRace, Names, StandsFor, bare_app};
 ghost use Rattle.scmgc.specs.Task.{checkpoint_rule, fits, most_steps, number_rule, race_app};
-ghost use Rattle.scmgc.specs.Task.{play_app, run_app, whole_app};
+ghost use Rattle.scmgc.specs.Task.{play_app, run_app, whole_app, with_numbers};
 ghost use Rattle.scmgc.specs.declared.task.Task.{Task as Asked};
 
 use crate::race::workload::{MAX_STEPS, MAX_WORKERS, MIN_STEPS};
@@ -86,34 +86,64 @@ fn play_command<'a>(alloc: Global) -> Result<Command<'a>, AllocError>
         .arg(Arg::new(alloc, "FILE").help("The script to play, or standard input without it"))
 }
 
-/// Makes an option that must be given, and takes a number in this range.
-fn number_option<'a>(alloc: Global, name: &'a str, least: u32, most: u32, help: &'a str) -> Arg<'a>
-    ensures shape { rule_of result ≡ number_rule name.entry.now least most }
-    ensures local { result.global ≡ false }
-{
-    Arg::new(alloc, name)
-        .long(name)
-        .value_name("NUMBER")
-        .help(help)
-        .required(true)
-        .value_parser(ValueParser::signed(i64::from(least), i64::from(most)))
-}
-
-/// Adds an option to the command: it must be given, and takes a number in this range.
-fn with_number<'a>(
-    alloc: Global,
-    command: Command<'a>,
-    name: &'a str,
+/// An option that takes a number in a range.
+struct NumberOption {
+    name: &'static str,
     least: u32,
     most: u32,
-    help: &'a str,
-) -> Result<Command<'a>, AllocError>
-    requires { (out-Command command).has_globals ≡ false }
-    ensures shape { IfOk result (λ c.
-        app_of c ≡ with_rule (app_of command.entry) (number_rule name.entry.now least most)) }
-    ensures local { IfOk result (λ c. (out-Command c).has_globals ≡ false) }
-{
-    command.arg(number_option(alloc, name, least, most, help))
+    help: &'static str,
+}
+
+/// The options of a race that must be given.
+const NUMBERS: [NumberOption; 4] = [
+    NumberOption {
+        name: "workers",
+        least: 1,
+        most: MAX_WORKERS,
+        help: "How many workers, 1 to 32",
+    },
+    NumberOption {
+        name: "steps",
+        least: MIN_STEPS,
+        most: MAX_LONG_STEPS,
+        help: "How many events each worker does, 5 to 20000, with checkpoints up to 100000000",
+    },
+    NumberOption {
+        name: "seed",
+        least: 0,
+        most: u32::MAX,
+        help: "The number that the events are drawn from, up to 4294967295",
+    },
+    NumberOption {
+        name: "budget",
+        least: 1,
+        most: MAX_BUDGET,
+        help: "The budget of the collector's slices, 1 to 65536",
+    },
+];
+
+/// The option for the events between two checkpoints.
+const CHECKPOINT: NumberOption = NumberOption {
+    name: "checkpoint",
+    least: 0,
+    most: MAX_CHECKPOINT,
+    help: "Audits and empties the log after so many events of the workers, up to 250000; else 0",
+};
+
+impl NumberOption {
+    /// Makes the option as an argument, which must be given.
+    fn argument<'a>(&self, alloc: Global) -> Arg<'a>
+        ensures shape { rule_of result
+            ≡ number_rule self.now.name.now self.now.least self.now.most }
+        ensures local { result.global ≡ false }
+    {
+        Arg::new(alloc, self.name)
+            .long(self.name)
+            .value_name("NUMBER")
+            .help(self.help)
+            .required(true)
+            .value_parser(ValueParser::signed(i64::from(self.least), i64::from(self.most)))
+    }
 }
 
 /// Makes the option for the events between two checkpoints, which may be left out.
@@ -121,14 +151,27 @@ fn checkpoint_option<'a>(alloc: Global) -> Arg<'a>
     ensures shape { rule_of result ≡ checkpoint_rule }
     ensures local { result.global ≡ false }
 {
-    Arg::new(alloc, "checkpoint")
-        .long("checkpoint")
-        .value_name("NUMBER")
-        .help(
-            "Audits and empties the log after so many events of the workers, up to 250000; else 0",
-        )
+    CHECKPOINT
+        .argument(alloc)
+        .required(false)
         .default_value("0")
-        .value_parser(ValueParser::signed(0, i64::from(MAX_CHECKPOINT)))
+}
+
+/// Adds these options to the command.
+fn with_numbers<'a>(
+    alloc: Global,
+    mut command: Command<'a>,
+    options: &[NumberOption],
+) -> Result<Command<'a>, AllocError>
+    requires { (out-Command command).has_globals ≡ false }
+    ensures shape { IfOk result (λ c.
+        app_of c ≡ with_numbers options.now (app_of command.entry)) }
+    ensures local { IfOk result (λ c. (out-Command c).has_globals ≡ false) }
+{
+    for option in options {
+        command = command.arg(option.argument(alloc))?;
+    }
+    Ok(command)
 }
 
 /// Makes the subcommand that lets workers race.
@@ -139,38 +182,7 @@ fn race_command<'a>(alloc: Global) -> Result<Command<'a>, AllocError>
     let command = Command::new(alloc, "race").about(
         "Lets workers and a collector race on one layer, and audits its log",
     );
-    let command = with_number(
-        alloc,
-        command,
-        "workers",
-        1,
-        MAX_WORKERS,
-        "How many workers, 1 to 32",
-    )?;
-    let command = with_number(
-        alloc,
-        command,
-        "steps",
-        MIN_STEPS,
-        MAX_LONG_STEPS,
-        "How many events each worker does, 5 to 20000, with checkpoints up to 100000000",
-    )?;
-    let command = with_number(
-        alloc,
-        command,
-        "seed",
-        0,
-        u32::MAX,
-        "The number that the events are drawn from, up to 4294967295",
-    )?;
-    let command = with_number(
-        alloc,
-        command,
-        "budget",
-        1,
-        MAX_BUDGET,
-        "The budget of the collector's slices, 1 to 65536",
-    )?;
+    let command = with_numbers(alloc, command, &NUMBERS)?;
     command.arg(checkpoint_option(alloc))
 }
 
