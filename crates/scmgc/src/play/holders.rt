@@ -35,8 +35,8 @@ fn push_table(list: &mut Vec<HeldFile>, table: &ListedTable) -> Result<(), Alloc
     Ok(())
 }
 
-/// Appends the files in the queue of a file.
-fn push_queue(list: &mut Vec<HeldFile>, file: &ListedFile) -> Result<(), AllocError> {
+/// Appends the files that wait at a file: in its queue, and in its backlog.
+fn push_waiting(list: &mut Vec<HeldFile>, file: &ListedFile) -> Result<(), AllocError> {
     let Some(socket) = &file.socket else {
         return Ok(());
     };
@@ -48,14 +48,6 @@ fn push_queue(list: &mut Vec<HeldFile>, file: &ListedFile) -> Result<(), AllocEr
             })?;
         }
     }
-    Ok(())
-}
-
-/// Appends the embryos in the backlog of a file.
-fn push_backlog(list: &mut Vec<HeldFile>, file: &ListedFile) -> Result<(), AllocError> {
-    let Some(socket) = &file.socket else {
-        return Ok(());
-    };
     for ino in &socket.backlog {
         list.push(HeldFile {
             ino: *ino,
@@ -65,7 +57,7 @@ fn push_backlog(list: &mut Vec<HeldFile>, file: &ListedFile) -> Result<(), Alloc
     Ok(())
 }
 
-/// Appends the places in the tables, then those in the queues, then those in the backlogs.
+/// Appends the places in the tables, then those in the queues and backlogs.
 fn push_places(
     list: &mut Vec<HeldFile>,
     tables: &[ListedTable],
@@ -75,16 +67,13 @@ fn push_places(
         push_table(list, table)?;
     }
     for file in files {
-        push_queue(list, file)?;
-    }
-    for file in files {
-        push_backlog(list, file)?;
+        push_waiting(list, file)?;
     }
     Ok(())
 }
 
 /// Returns all places, by the number of the file that they hold. Of one file, descriptors come
-/// first, then queues, then backlogs, each by rising numbers.
+/// first, then queues and backlogs, each by rising numbers. An embryo has one place, a backlog.
 pub fn places_of(
     alloc: Global,
     tables: &[ListedTable],

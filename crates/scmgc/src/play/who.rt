@@ -38,11 +38,12 @@ fn push_holders<'a>(
 
 /// Appends the number of a file, and whether it is garbage.
 fn push_file(text: &mut String, ino: Ino, lost: &[Ino]) -> Result<(), AllocError> {
-    if lost.binary_search(&ino).is_ok() {
-        write!(text, "file {ino} (garbage):")
+    let mark = if lost.binary_search(&ino).is_ok() {
+        " (garbage)"
     } else {
-        write!(text, "file {ino}:")
-    }
+        ""
+    };
+    write!(text, "file {ino}{mark}:")
 }
 
 /// Appends a line for each file, with its places; the places are by rising file.
