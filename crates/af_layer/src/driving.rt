@@ -123,8 +123,7 @@ fn take_back(mut seats: Vec<Seat>, workers: Vec<Worker>) -> Vec<Seat>
     ensures { result.items ≡ seats_of workers.items }
 {
     for worker in workers {
-        let Worker { seat, .. } = worker;
-        seats.push_reserved(seat);
+        seats.push_reserved(worker.into_seat());
     }
     seats
 }

@@ -162,6 +162,14 @@ impl Worker {
         };
         self.fault = done.err();
     }
+
+    /// Returns the seat.
+    pub fn into_seat(self) -> Seat
+        ensures { result ≡ self.seat }
+    {
+        let Worker { seat, .. } = self;
+        seat
+    }
 }
 
 /// Lets each worker work in a thread of its own.
