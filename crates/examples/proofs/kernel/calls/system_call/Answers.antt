@@ -1,5 +1,4 @@
 use Rattle.std.proofs.Common.{rules, ◌≡◌, subst, sym, ap}
-use Rattle.jaywardrobe.specs.Types.step
 use Rattle.examples.specs.Calls.{Answers, asked, send_asked}
 use Rattle.examples.proofs.kernel.calls.system_call.Goals as goal
 
