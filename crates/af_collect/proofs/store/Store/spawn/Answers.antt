@@ -1,4 +1,4 @@
-use Rattle.std.proofs.Common.{rules, ◌+◌, ◌∙◌, ◌≡◌, ap, false, refl, subst}
+use Rattle.std.proofs.Common.{◌+◌, ◌∙◌, ◌≡◌, ap, false, refl, subst}
 use Rattle.std.specs.FinMap as map
 use Rattle.std.specs.Map.{keys_of}
 use Rattle.af_base.specs.Changes.{add_process}
@@ -41,6 +41,3 @@ invariant_of-holdings-2 c = (both c).0
 
 pub invariant_of-self-2 : goal.invariant_of-self-2
 invariant_of-self-2 c = (both c).1
-
-pub spawn-requires-clause-room : goal.spawn-requires-clause-room
-spawn-requires-clause-room c = search rules
