@@ -1,4 +1,4 @@
-//! Numbers with types of their own. A clause sees each as its number.
+//! Numbers with types of their own. A contract sees each as its number.
 ghost use Rattle.std.specs.Prelude.{◌≡◌, ◌≤◌, IsTrue};
 
 use crate::limits::MAX_INO;
@@ -34,8 +34,8 @@ impl fmt::Display for Ino {
 /// The number of keys that a `FileRef` tells apart.
 const KEYS: u64 = 1 << 16;
 
-/// A file, and the key under which its row was found. A clause sees the number alone: the key is a
-/// hint, and each use of it compares the number.
+/// A file, and the key under which its row was found. A contract sees the number alone: the key is
+/// a hint, and each use of it compares the number.
 #[derive(Debug, Default, Drop)]
 pub struct FileRef {
     /// The number times `KEYS`, plus the key: tables and messages have one word for each file.

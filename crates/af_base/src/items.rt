@@ -1,4 +1,4 @@
-//! A list of which a few items lie in the value. A clause sees the list of its items.
+//! A list of which a few items lie in the value. A contract sees the list of its items.
 ghost use Rattle.std.specs.Prelude.{◌≡◌, ◌↔◌, ◌+◌, ◌≤◌, ◌∷◌, ◌++◌, [], drop, length, take};
 ghost use Rattle.std.specs.Prelude.{IfOk, IsTrue, OnErr, OnOk};
 

@@ -12,7 +12,7 @@ use std::marker::Model;
 /// An open descriptor of a process, and its file.
 #[derive(Clone, Copy, Debug, PartialEq, Eq)]
 pub struct ListedNumber {
-    /// The number.
+    /// The descriptor.
     pub fd: Fd,
     /// The file.
     pub ino: Ino,
@@ -39,7 +39,7 @@ pub struct ListedMessage {
 /// The files that a socket holds.
 #[derive(Debug, Drop)]
 pub struct ListedSocket {
-    /// The messages that it has to receive, in order.
+    /// The messages that it can receive, in order.
     pub queue: Vec<ListedMessage>,
     /// The embryos that wait to be accepted, in order.
     pub backlog: Vec<Ino>,
@@ -54,8 +54,8 @@ pub struct ListedFile {
     pub socket: Option<ListedSocket>,
 }
 
-/// The tables of all processes and all live files, at one moment. A clause sees it as a bare world.
-/// Its places are kept sorted beside them, so that a count is a binary search.
+/// The tables of all processes and all live files, at one moment. A contract sees it as a bare
+/// world. Its places are kept sorted beside them, so that a count is a binary search.
 #[derive(Debug, Drop)]
 pub struct Listing {
     tables: Vec<ListedTable>,

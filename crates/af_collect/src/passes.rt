@@ -40,7 +40,7 @@ impl Store {
     }
 
     /// Begins a pass over the world: no file is marked yet, and none was looked at. Costs the same
-    /// for any number of files.
+    /// for any number of files, except once in 2^32 passes.
     pub fn begin(&mut self)
         requires idle { runs self.old.pass ≡ false }
         requires sound { IsSound self.old.world }

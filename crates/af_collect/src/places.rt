@@ -1,6 +1,6 @@
 //! Changes of the references of single descriptors and messages. Each is one change of the world,
 //! and keeps the counts in step with it. An unreferenced file stays, with all that it holds, until
-//! `release` frees it; only `close` may remove a file that holds nothing immediately.
+//! `release` frees it; only `close` may remove one immediately, if it holds nothing.
 ghost use Rattle.std.specs.Prelude.{◌≡◌, ◌<◌, ◌≤◌, ◌+◌, ℕ, None, IsTrue, IfOk};
 ghost use Rattle.std.specs.Prelude.{IfSome, OnOk, OnErr, length, false, is_none, is_some};
 ghost use Rattle.std.specs.Prelude.{[], true};

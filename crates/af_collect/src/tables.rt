@@ -1,5 +1,5 @@
 //! Descriptors of a process as places, many at once: a receive installs its files, and all open
-//! descriptors are counted when a process joins, and dropped when it ends.
+//! descriptors are counted when a process starts by a fork, and dropped when it ends.
 ghost use Rattle.std.specs.Prelude.{◌≡◌, ◌<◌, ◌+◌, ◌^◌, ℕ, IsTrue, Some, length, map as mapped};
 ghost use Rattle.std.specs.List.{All, Contains, zip};
 ghost use Rattle.std.specs.FinMap as map;
@@ -117,7 +117,7 @@ pub fn ref_table(files: &mut Files, process: &Process)
     }
 }
 
-/// Drops a reference for each open descriptor of a process that left the world. Takes no memory.
+/// Drops a reference for each open descriptor of a process that leaves the world. Takes no memory.
 pub fn unref_table(files: &mut Files, process: &Process)
     requires { (w : World) × (c : LedgerView) × (pid : ℕ) × (map.get w.processes pid
         ≡ Some process.now.process) × IsExact w (kept_of files.old.counts c) }

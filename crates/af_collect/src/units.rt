@@ -17,7 +17,7 @@ use std::snapshot::Snapshot;
 
 impl Collector {
     /// Begins a pass over the present files: none is marked. Costs the same for any number of
-    /// files.
+    /// files, except once in 2^32 passes.
     pub fn begin(&mut self)
         requires kept { KeepsPass self.old }
         requires sound { IsSound self.old.holdings.world }

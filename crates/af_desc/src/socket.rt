@@ -353,7 +353,7 @@ impl Link {
     }
 }
 
-/// A socket, lent for reading: what it is, and what it has to receive.
+/// A socket, lent for reading: what it is, and what it can receive.
 #[derive(Drop)]
 pub struct Socket<'a> {
     form: &'a Form,

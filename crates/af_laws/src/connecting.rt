@@ -61,7 +61,7 @@ pub fn embryos_are_reached()
     ensures { EmbryosAreReached }
 {}
 
-/// So is what the embryo has to receive, before it is accepted.
+/// So is what the embryo can receive, before it is accepted.
 pub fn what_embryos_hold_is_reached()
     ensures { WhatEmbryosHoldIsReached }
 {}

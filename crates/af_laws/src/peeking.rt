@@ -23,7 +23,7 @@ pub fn peek_sees_what_is_received()
     ensures { PeekSeesWhatIsReceived }
 {}
 
-/// A changed limit closes no number of any process.
+/// A changed limit closes no descriptor of any process.
 pub fn limit_closes_nothing()
     ensures { LimitClosesNothing }
 {}

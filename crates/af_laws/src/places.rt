@@ -35,12 +35,12 @@ pub fn references_add_up()
     ensures { ReferencesAddUp }
 {}
 
-/// A number that is taken into use is one reference more to its file, and none to any other.
+/// A descriptor that is opened is one reference more to its file, and none to any other.
 pub fn install_counts()
     ensures { InstallCounts }
 {}
 
-/// A number that is given up is one reference less to its file, and to no other.
+/// A descriptor that is closed is one reference less to its file, and to no other.
 pub fn uninstall_counts()
     ensures { UninstallCounts }
 {}
@@ -50,12 +50,12 @@ pub fn replace_counts()
     ensures { ReplaceCounts }
 {}
 
-/// A child is as many references more to a file as its table has numbers for it.
+/// A child is as many references more to a file as its table has descriptors for it.
 pub fn fork_counts()
     ensures { ForkCounts }
 {}
 
-/// An exit takes from a file as many references as the process's table had numbers for it.
+/// An exit takes from a file as many references as the process's table had descriptors for it.
 pub fn exit_counts()
     ensures { ExitCounts }
 {}
@@ -85,7 +85,7 @@ pub fn receive_discharges()
     ensures { ReceiveDischarges }
 {}
 
-/// How many sockets are garbage is one number.
+/// There is one number of garbage sockets.
 pub fn garbage_counts_once()
     ensures { GarbageCountsOnce }
 {}

@@ -26,7 +26,8 @@ pub fn reached_is_held()
     ensures { ReachedIsHeld }
 {}
 
-/// A file that only itself holds is garbage, as a listener in the queue of its own embryo.
+/// Live files in no table that only they themselves hold are garbage, as a listener in the queue of
+/// its own embryo.
 pub fn groups_of_their_own_are_garbage()
     ensures { GroupsOfTheirOwnAreGarbage }
 {}

@@ -18,18 +18,18 @@ pub fn exit_never_fails()
     ensures { ExitNeverFails }
 {}
 
-/// An open number can always be closed.
+/// An open descriptor can always be closed.
 pub fn close_never_fails()
     ensures { CloseNeverFails }
 {}
 
-/// A number put in place of itself changes nothing.
+/// A descriptor put in place of itself changes nothing.
 pub fn dup2_to_itself_changes_nothing()
     ensures { Dup2ToItselfChangesNothing }
 {}
 
 /// A send that nothing refuses is charged to the user of the process that sends, a place for each
-/// number that it names: not to the receiver, and not once for a message or a repeat.
+/// descriptor that it names: not to the receiver, and not once for a message or a repeat.
 pub fn send_is_charged_to_its_sender()
     ensures { SendIsChargedToItsSender }
 {}

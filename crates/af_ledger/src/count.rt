@@ -6,7 +6,7 @@ ghost use Rattle.af_ledger.specs.Counted.{IsCounted};
 use crate::place::Place;
 use std::marker::Model;
 
-/// One place in a queue, as it is counted. Below it descriptors are counted.
+/// One place in a queue, as it is counted. The bits below it count descriptors.
 const IN_QUEUE: u64 = 1 << 21;
 
 /// One place in a backlog, as it is counted.

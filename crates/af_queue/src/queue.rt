@@ -25,7 +25,7 @@ use std::marker::Model;
 /// How many files `Queue::attached_from` returns at most.
 pub const BATCH: usize = 16;
 
-/// The messages that a socket has to receive, lent for reading. A contract sees them as a list.
+/// The messages that a socket can receive, lent for reading. A contract sees them as a list.
 #[derive(Drop)]
 pub struct Queue<'a> {
     nodes: &'a Slab<Node>,

@@ -7,8 +7,8 @@ use af_plain::{Kept, agrees};
 use std::marker::Model;
 
 /// That all numbers handed to [`Agreed::of`] are the recounts: nothing else makes one, so what
-/// takes it cannot be called where the comparison was left out. It is seen as the number of files
-/// that were compared.
+/// takes it cannot be called where the comparison was left out. A contract sees it as the number of
+/// files that were compared.
 #[derive(Drop)]
 pub struct Agreed {
     files: usize,

@@ -68,7 +68,7 @@ fn kept_counts(alloc: Global, engine: &Engine) -> Result<Kept, AllocError>
     })
 }
 
-/// The result of a check. It is seen as the number of live files and the number of garbage files.
+/// The result of a check. A contract sees it as the numbers of live files and of garbage files.
 #[derive(Drop)]
 pub struct Checked {
     agreed: Agreed,

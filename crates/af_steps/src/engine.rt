@@ -65,7 +65,7 @@ pub struct RunStopped {
 impl Engine {
     ghost use Rattle.af_base.specs.Whole.{IsSound};
 
-    /// Makes an engine in the fresh machine.
+    /// Makes an engine to which nothing has happened: the fresh machine.
     pub fn new(alloc: Global) -> Result<Engine, AllocError>
         ensures { IfOk result (λ e. e ≡ fresh) }
     {

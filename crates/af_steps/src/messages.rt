@@ -84,9 +84,9 @@ struct Source {
 impl Engine {
     /// Sends bytes from a process, with the files of these descriptors (sendmsg(2)): the step
     /// `Send` of that process, for a caller that keeps the bytes and descriptors. They are copied
-    /// once. Answers how many bytes were sent. Refused, in this order: ESRCH, EBADF, ENOTSOCK,
-    /// EINVAL (no byte, or over 253 numbers), EMSGSIZE (over 65,536 bytes), EBADF of an attached
-    /// number, ENOTCONN, EPIPE, ETOOMANYREFS, ENOBUFS, EAGAIN, ENOMEM.
+    /// once. Returns how many bytes were sent. Refused, in this order: ESRCH, EBADF, ENOTSOCK,
+    /// EINVAL (no byte, or over 253 descriptors), EMSGSIZE (over 65,536 bytes), EBADF of an
+    /// attached descriptor, ENOTCONN, EPIPE, ETOOMANYREFS, ENOBUFS, EAGAIN, ENOMEM.
     pub fn send(&mut self, pid: Pid, on: Fd, bytes: &[u8], attach: &[Fd]) -> Result<u32, Errno>
         ensures done { IfOk result (λ count.
             Does self.old pid (Step.Send on bytes.now attach.now) (Reply.Sent count) self.new) }
@@ -207,10 +207,10 @@ impl Engine {
         Ok(receive_answer(taken, fds))
     }
 
-    /// Returns what a receive would take, which stays in the queue (recvmsg(2), MSG_PEEK).
-    /// Installed descriptors refer to files that are then in a table and in the queue; the others
-    /// are in the queue alone. A second peek sees the same. Refused, in this order: ESRCH, EBADF,
-    /// ENOTSOCK, EINVAL (`max_bytes` is not 1 to 65,536), ENOTCONN, EAGAIN, ENOMEM.
+    /// Returns what a receive would take, which stays in the queue (recvmsg(2), MSG_PEEK). The
+    /// files of installed descriptors are then in a table and in the queue, other files in the
+    /// queue alone. A second peek sees the same. Refused, in this order: ESRCH, EBADF, ENOTSOCK,
+    /// EINVAL (`max_bytes` is not 1 to 65,536), ENOTCONN, EAGAIN, ENOMEM.
     // The compiler zeroes room for its answer at the entry of each function into which it is
     // inlined, so it is kept apart.
     #[inline(never)]

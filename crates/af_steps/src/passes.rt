@@ -49,8 +49,8 @@ impl From<Progress> for Reply {
 }
 
 impl Engine {
-    /// Begins a pass over the present files. It costs the same for any number of files. Answers its
-    /// number. Refused with EBUSY while a pass runs.
+    /// Begins a pass over the present files. It costs the same for any number of files, except once
+    /// in 2^32 passes. Returns its number. Refused with EBUSY while a pass runs.
     pub fn begin(&mut self) -> Result<u64, Errno>
         ensures done { IfOk result (λ number.
             Begins self.old.pass self.old (Reply.Started number) self.new) }

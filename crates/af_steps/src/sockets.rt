@@ -17,8 +17,8 @@ use af_collect::Store;
 use af_desc::Socket;
 
 impl Engine {
-    /// Makes two sockets that are connected to each other (socketpair(2)). Answers their
-    /// descriptors, the process's two lowest free numbers, rising. Refused, in this order: ESRCH,
+    /// Makes two sockets that are connected to each other (socketpair(2)). Returns their
+    /// descriptors, the process's two lowest free ones, rising. Refused, in this order: ESRCH,
     /// EMFILE, ENFILE, ENOMEM.
     pub fn pair(&mut self, pid: Pid, kind: SockType) -> Result<(Fd, Fd), Errno>
         ensures done { IfOk result (λ fds.
@@ -35,8 +35,8 @@ impl Engine {
         Ok((lower, higher))
     }
 
-    /// Makes a socket (socket(2)). Answers its descriptor, the process's lowest free number.
-    /// Refused, in this order: ESRCH, EMFILE, ENFILE, ENOMEM.
+    /// Makes a socket (socket(2)). Returns its descriptor, the process's lowest free one. Refused,
+    /// in this order: ESRCH, EMFILE, ENFILE, ENOMEM.
     pub fn socket(&mut self, pid: Pid, kind: SockType) -> Result<Fd, Errno>
         ensures done { IfOk result (λ fd.
             Does self.old pid (Step.Socket kind) (Reply.Fd fd) self.new) }
@@ -94,9 +94,9 @@ impl Engine {
         Ok(())
     }
 
-    /// Accepts the embryo that waits longest at a listener (accept(2)). Answers the embryo's new
-    /// descriptor, the process's lowest free number. Refused, in this order: ESRCH, EBADF,
-    /// ENOTSOCK, EINVAL, EAGAIN, EMFILE, ENOMEM.
+    /// Accepts the embryo that waits longest at a listener (accept(2)). Returns the embryo's new
+    /// descriptor, the process's lowest free one. Refused, in this order: ESRCH, EBADF, ENOTSOCK,
+    /// EINVAL, EAGAIN, EMFILE, ENOMEM.
     pub fn accept(&mut self, pid: Pid, on: Fd) -> Result<Fd, Errno>
         ensures done { IfOk result (λ fd.
             Does self.old pid (Step.Accept on) (Reply.Fd fd) self.new) }

@@ -12,7 +12,7 @@ use af_base::limits::MAX_NOFILE;
 impl Engine {
     /// Starts a process, as after fork(2) and setuid(2), with an empty table and this limit on its
     /// descriptors (RLIMIT_NOFILE). A privileged one is not held to its user's share of descriptors
-    /// in flight (unix(7), CAP_SYS_RESOURCE). Answers its pid. Refused, in this order: ERANGE (the
+    /// in flight (unix(7), CAP_SYS_RESOURCE). Returns its pid. Refused, in this order: ERANGE (the
     /// limit is over 1,024), EAGAIN, ENOMEM.
     pub fn spawn(&mut self, uid: Uid, nofile: u32, privileged: bool) -> Result<Pid, Errno>
         ensures done { IfOk result (λ pid. Starts self.old uid nofile privileged pid self.new) }
@@ -29,7 +29,7 @@ impl Engine {
         Ok(pid)
     }
 
-    /// Opens a plain file (open(2)). Answers its descriptor, the process's lowest free number.
+    /// Opens a plain file (open(2)). Returns its descriptor, the process's lowest free one.
     /// Refused, in this order: ESRCH, EMFILE, ENFILE, ENOMEM.
     pub fn open(&mut self, pid: Pid) -> Result<Fd, Errno>
         ensures done { IfOk result (λ fd. Does self.old pid Step.Open (Reply.Fd fd) self.new) }
@@ -41,7 +41,7 @@ impl Engine {
         Ok(fd)
     }
 
-    /// Duplicates a descriptor (dup(2)). Answers the new one, the process's lowest free number.
+    /// Duplicates a descriptor (dup(2)). Returns the new one, the process's lowest free one.
     /// Refused, in this order: ESRCH, EBADF, EMFILE, ENOMEM.
     pub fn dup(&mut self, pid: Pid, from: Fd) -> Result<Fd, Errno>
         ensures done { IfOk result (λ fd.
@@ -59,9 +59,9 @@ impl Engine {
         Ok(fd)
     }
 
-    /// Makes the descriptor `to` refer to the file of `from` (dup2(2)); if it is open, it is closed
-    /// first. Where both are one, nothing changes, and no memory is needed. Answers `to`. Refused,
-    /// in this order: ESRCH, EBADF, ENOMEM.
+    /// Makes the descriptor `to` refer to the file of `from` (dup2(2)). If `to` is open, it is
+    /// closed first. Where both are one, nothing changes, and no memory is needed. Returns `to`.
+    /// Refused, in this order: ESRCH, EBADF, ENOMEM.
     pub fn dup2(&mut self, pid: Pid, from: Fd, to: Fd) -> Result<Fd, Errno>
         ensures done { IfOk result (λ fd.
             Does self.old pid (Step.Dup2 from to) (Reply.Fd fd) self.new) }
@@ -95,7 +95,7 @@ impl Engine {
         Ok(())
     }
 
-    /// Makes a child with a copy of the process's table (fork(2)). Answers the child's pid.
+    /// Makes a child with a copy of the process's table (fork(2)). Returns the child's pid.
     /// Refused, in this order: ESRCH, EAGAIN, ENOMEM.
     pub fn fork(&mut self, pid: Pid) -> Result<Pid, Errno>
         ensures done { IfOk result (λ child.

@@ -23,7 +23,7 @@ use std::alloc::AllocError;
 pub enum FileInfo {
     /// A plain file, without any content.
     Plain,
-    /// A socket: its type, its connection state, how many messages it has to receive, and how many
+    /// A socket: its type, its connection state, how many messages it can receive, and how many
     /// embryos wait to be accepted.
     Socket {
         kind: SockType,
@@ -111,7 +111,7 @@ impl Engine {
         self.store.holdings().files().next_after(ino, order_hint)
     }
 
-    /// Returns the file that a descriptor of a process refers to; nothing where the descriptor is
+    /// Returns the file that a descriptor of a process refers to; `None` where the descriptor is
     /// not open, or there is no such process. No search.
     pub fn ino_at(&self, pid: Pid, fd: Fd) -> Option<Ino>
         ensures { result ≡ table_at self.now.world pid fd }
@@ -120,8 +120,8 @@ impl Engine {
         Some(file.ino())
     }
 
-    /// Returns the file that a descriptor of a process refers to, as a reference: by it `refs_at`,
-    /// `inflight_at`, `file_at`, `name_at` and `ready_at` need no search.
+    /// Returns the file that a descriptor of a process refers to, as a reference, if there is one:
+    /// by it `refs_at`, `inflight_at`, `file_at`, `name_at` and `ready_at` need no search.
     pub fn file_on(&self, pid: Pid, fd: Fd) -> Option<FileRef>
         ensures { result ≡ table_at self.now.world pid fd }
     {
@@ -138,8 +138,8 @@ impl Engine {
         Ok(())
     }
 
-    /// Returns the lowest open descriptor of a process from this number on, and its file. A walk
-    /// over a table asks again from the next number.
+    /// Returns the lowest open descriptor of a process from this one on, and its file, if there is
+    /// one. A walk over a table asks again from the next number.
     pub fn next_open(&self, pid: Pid, from: Fd) -> Option<(Fd, FileRef)>
         ensures open { IfSome result (λ e. table_at self.now.world pid e.0 ≡ Some e.1) }
         ensures reached { IfSome result (λ e. from ≤ e.0) }

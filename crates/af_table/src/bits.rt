@@ -15,7 +15,7 @@ pub struct Bits {
 }
 
 impl Bits {
-    /// Makes a set without a number.
+    /// Makes an empty set.
     pub fn new() -> Bits
         ensures { (q : ℕ) → is_taken result.words q ≡ false }
     {
@@ -52,7 +52,7 @@ impl Bits {
     }
 
     /// Returns the least number from `from` on and below `end` that is in the set, or that is not.
-    /// Looks at each word once, and at none beyond.
+    /// Looks at each word once, and at none behind the answer's.
     #[inline(always)]
     pub fn next(&self, from: u32, end: u32, taken: bool) -> Option<u32>
         requires { end ≤ MAX_NOFILE }
@@ -96,8 +96,8 @@ impl Bits {
         None
     }
 
-    /// Returns one more than a number of the set, or 0: each number of the set below this one is
-    /// below the answer. Looks at no word beyond this one's.
+    /// Returns a bound above each number of the set that is below this one: one more than a number
+    /// of the set, or 0. Looks at no word behind that of this number.
     pub fn end_below(&self, below: u32) -> u32
         requires { below ≤ MAX_NOFILE }
         ensures free { (q : ℕ) → result ≤ q → q < below → is_taken self.now.words q ≡ false }

@@ -38,7 +38,7 @@ impl Hints {
     {
         match processes.get_index(self.places[pid.0 as usize % HINTS]) {
             Some((there, process)) if *there == pid => Some(process),
-            // The answer of a call is taken apart here, so that a hit needs no test.
+            // The answer of a search is taken apart here, so that a right hint needs no test of it.
             _ => Some(search(processes, pid)?),
         }
     }

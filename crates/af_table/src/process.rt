@@ -17,8 +17,8 @@ use std::marker::Model;
 use std::mem;
 
 /// A process: bit n says whether descriptor n is open, and slot n has its file if it is. The slot
-/// of a free descriptor is blank: its number is 0, which is no file's. So a slot with a file tells
-/// without its bit. Only `make_room` adds slots, so an install takes no memory.
+/// of a free descriptor is blank: its number is 0, which is no file's. So most look-ups need no
+/// bit. Only `make_room` adds slots, so an install takes no memory.
 #[derive(Drop)]
 pub struct Process {
     user: Uid,

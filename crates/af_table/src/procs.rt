@@ -132,8 +132,8 @@ impl Procs {
         Some(self.find(pid)?.who())
     }
 
-    /// Returns the lowest free number of the process (open(2)). Returns `None` where all numbers
-    /// below its limit are open, and where there is no such process.
+    /// Returns the lowest free descriptor of the process (open(2)). Returns `None` where all
+    /// descriptors below its limit are open, and where there is no such process.
     pub fn lowest(&self, pid: Pid) -> Option<Fd>
         ensures { result ≡ lowest_in self.now.processes pid }
     {
@@ -271,8 +271,8 @@ impl Procs {
         process.make_room()
     }
 
-    /// Sets the process's limit on descriptors (setrlimit(2), RLIMIT_NOFILE): free ones are below
-    /// it. A lower one closes nothing. Takes no memory.
+    /// Sets the process's limit on descriptors (setrlimit(2), RLIMIT_NOFILE): free descriptors are
+    /// below it. A lower limit closes nothing. Takes no memory.
     #[inline]
     #[tactic(auto, using(af_base::proofs::Trees::changes))]
     pub fn set_limit(&mut self, pid: Pid, limit: u32)
