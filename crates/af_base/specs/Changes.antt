@@ -45,11 +45,11 @@ abbrev pub install_all : World → ℕ → List (ℕ × ℕ) → World
 install_all w p [] = w
 install_all w p (e ∷ es) = install_all (install w p e.0 e.1) p es
 
--- A process whose number n is free (close(2)).
+-- A process whose descriptor n is free (close(2)).
 abbrev pub taken_out : ℕ → Process → Process
 taken_out n q = record q { table = map.remove q.table n }
 
--- The number n of process p is free (close(2)).
+-- Descriptor n of process p is free (close(2)).
 abbrev pub uninstall : World → ℕ → ℕ → World
 uninstall w p n = with_process w p (taken_out n)
 

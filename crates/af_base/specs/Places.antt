@@ -14,7 +14,7 @@ number_in processes p n = option_map_or (λ q. map.get q.table n) (map.get proce
 abbrev pub table_at : World → ℕ → ℕ → Option ℕ
 table_at w p n = number_in w.processes p n
 
--- The messages that a file has to receive: a plain file has none.
+-- The messages that a file can receive: a plain file has none.
 abbrev pub queue_of : File → List Message
 queue_of Plain = []
 queue_of (AsSocket s) = s.queue

@@ -103,7 +103,7 @@ ino_named w name = unwrap_or (named w.files name) 0
 abbrev pub socket_named : World → List ℕ → Socket
 socket_named w name = unwrap_or (option_and_then (socket_at w) (named w.files name)) no_socket
 
--- Whether fewer than k numbers of the table are free (open(2), EMFILE).
+-- Whether fewer than k descriptors of the table are free (open(2), EMFILE).
 abbrev pub is_short : Process → ℕ → Bool
 is_short q k = nat_lt (length (free_numbers q)) k
 
@@ -143,7 +143,7 @@ on_number file = (is_none file, EBADF) ∷ []
 abbrev pub on_socket : Option Socket → RefusalRow
 on_socket socket = (is_none socket, ENOTSOCK) ∷ []
 
--- The process must have k numbers free (open(2), EMFILE).
+-- The process must have k descriptors free (open(2), EMFILE).
 abbrev pub on_free : Process → ℕ → RefusalRow
 on_free q k = (is_short q k, EMFILE) ∷ []
 

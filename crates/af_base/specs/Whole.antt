@@ -46,8 +46,8 @@ pub record IsWhole (w : World) : Type 0 where
   pub names : (f g : ℕ) (name : List ℕ) → name_at w f ≡ Some name → name_at w g ≡ Some name → f ≡ g
   pub embryos : (f : ℕ) → waiting w f ≤ 1
 
--- A process whose limit is within its own, and whose open numbers are below the largest one. A
--- number may be at or above the limit where that was lowered (setrlimit(2), RLIMIT_NOFILE; this
+-- A process whose limit is at most the largest one, and whose open descriptors are below that. A
+-- descriptor may be at or above the limit where that was lowered (setrlimit(2), RLIMIT_NOFILE; this
 -- project's profile).
 pub record IsProcessWithin (q : Process) : Type 0 where
   pub limit : q.limit ≤ MAX_NOFILE

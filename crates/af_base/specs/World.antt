@@ -19,8 +19,8 @@ pub record Message : Type 0 where
   pub attached : List ℕ
   pub user : ℕ
 
--- A socket (unix(7)): its type, whom it can talk to, its abstract name if it has one, what it has
--- to receive, and the embryos that wait to be accepted.
+-- A socket (unix(7)): its type, whom it can talk to, its abstract name if it has one, the messages
+-- that it can receive, and the embryos that wait to be accepted.
 pub record Socket : Type 0 where
   pub kind : SockType
   pub state : State

@@ -91,6 +91,6 @@ AcceptedNumberIsTheEmbryo = (old new : World) (p n m : ℕ) → IsSound old
 abbrev pub EmbryosAreReached : Type 0
 EmbryosAreReached = (w : World) (s e : ℕ) → Reached w s → InBacklog w s e → Reached w e
 
--- So is what the embryo has to receive, before it is accepted.
+-- So is what the embryo can receive, before it is accepted.
 abbrev pub WhatEmbryosHoldIsReached : Type 0
 WhatEmbryosHoldIsReached = (w : World) (s e f : ℕ) → Reached w s → InBacklog w s e → Holds w e f → Reached w f

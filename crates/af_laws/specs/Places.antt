@@ -35,12 +35,12 @@ NoneWhereNotWaiting = (w : World) (f : ℕ) → (waiting w f ≡ 0) ↔ ((s : �
 abbrev pub ReferencesAddUp : Type 0
 ReferencesAddUp = (w : World) (f : ℕ) → refs w f ≡ tabled w f + inflight w f + waiting w f
 
--- A number that is taken into use is one reference more to its file, and none to any other.
+-- A descriptor that is opened is one reference more to its file, and none to any other.
 abbrev pub InstallCounts : Type 0
 InstallCounts = (w : World) (p n g f : ℕ) → IsTrue (map.contains_key w.processes p)
     → table_at w p n ≡ None → refs (install w p n g) f ≡ refs w f + one f g
 
--- A number that is given up is one reference less to its file, and to no other.
+-- A descriptor that is closed is one reference less to its file, and to no other.
 abbrev pub UninstallCounts : Type 0
 UninstallCounts = (w : World) (p n g f : ℕ) → table_at w p n ≡ Some g
     → refs (uninstall w p n) f + one f g ≡ refs w f
@@ -51,13 +51,13 @@ abbrev pub ReplaceCounts : Type 0
 ReplaceCounts = (w : World) (p n g h f : ℕ) → table_at w p n ≡ Some h
     → refs (install w p n g) f + one f h ≡ refs w f + one f g
 
--- A child is as many references more to a file as the table that it copies has numbers for it
+-- A child is as many references more to a file as the table that it copies has descriptors for it
 -- (fork(2)).
 abbrev pub ForkCounts : Type 0
 ForkCounts = (w : World) (f : ℕ) (q : Process) → IsWhole w
     → refs (add_process w q) f ≡ refs w f + total_of (one f) q.table
 
--- An exit takes from a file as many references as the process's table had numbers for it
+-- An exit takes from a file as many references as the process's table had descriptors for it
 -- (_exit(2)).
 abbrev pub ExitCounts : Type 0
 ExitCounts = (w : World) (p f : ℕ) (q : Process) → map.get w.processes p ≡ Some q
@@ -99,6 +99,6 @@ ReceiveDischarges = (w : World) (s u : ℕ) (m : Message) (rest : List Message) 
     × (u ≢ m.user → charged (with_queue w s rest) u ≡ charged w u)
     × (total (with_queue w s rest) + length m.attached ≡ total w)
 
--- How many sockets are garbage is one number.
+-- There is one number of garbage sockets.
 abbrev pub GarbageCountsOnce : Type 0
 GarbageCountsOnce = (w : World) (n m : ℕ) → IsGarbageCount w n → IsGarbageCount w m → n ≡ m

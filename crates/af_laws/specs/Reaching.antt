@@ -22,7 +22,7 @@ HasPlacesOf new old = ((f : ℕ) → InTable old f → InTable new f) × ((s f :
 abbrev pub PlacesKeepReached : Type 0
 PlacesKeepReached = (old new : World) → HasPlacesOf new old → (f : ℕ) → Reached old f → Reached new f
 
--- It stays reached where a free number is taken into use.
+-- It stays reached where a free descriptor is opened.
 abbrev pub InstallKeepsReached : Type 0
 InstallKeepsReached = (w : World) (p n g f : ℕ) → table_at w p n ≡ None → Reached w f
     → Reached (install w p n g) f

@@ -3,7 +3,8 @@ ghost use Rattle.af_laws.specs.Running.{EventsHaveReplies, RepliesDetermine, Log
 ghost use Rattle.af_laws.specs.Running.{RefusedChangesNothing, RunsJoin};
 ghost use Rattle.af_laws.specs.Running.{FreshIsSound, EventsKeepSound, RunsAreSound};
 
-/// From every machine whose world is sound each event has a reply and leads somewhere.
+/// From every machine whose world is sound each event has a reply and leads somewhere, but for a
+/// slice whose budgets are spent.
 pub fn events_have_replies()
     ensures { EventsHaveReplies }
 {}

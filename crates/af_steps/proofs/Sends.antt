@@ -1,4 +1,4 @@
--- A send: its row by its parts, and that what it puts where meets what a place in a queue asks for.
+-- A send: its row by its parts, and that the queue has room for its message.
 use Rattle.std.proofs.Common.{◌≡◌, ◌≤◌, ℕ, ◌+◌, List, ◌++◌, length, sym, ap, ◌∙◌, subst, arith}
 use Rattle.std.specs.Prelude.{Some, None, filter_map, nat_eq, nat_lt}
 use Rattle.std.specs.FinMap as map

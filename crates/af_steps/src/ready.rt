@@ -19,8 +19,9 @@ use af_collect::Store;
 use af_desc::Socket;
 
 impl Engine {
-    /// Returns what a descriptor of a process is ready for (poll(2)). A plain file is always
-    /// readable and writable. Refused, in this order: ESRCH, EBADF. It needs no memory.
+    /// Returns what a descriptor of a process is ready for (poll(2)): what its next receive, accept
+    /// or send finds. A plain file is always readable and writable. Refused, in this order: ESRCH,
+    /// EBADF. It needs no memory.
     pub fn poll(&self, pid: Pid, fd: Fd) -> Result<Ready, Errno>
         ensures ready { IfOk result (λ r.
             ready self.now.world (ino_on self.now.world pid fd) ≡ Some r) }
