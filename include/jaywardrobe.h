@@ -83,7 +83,7 @@ enum jw_error {
     JW_ENOBUFS = 9,       /* All users together have too many descriptors in flight. */
     JW_ENOTCONN = 10,     /* The socket was never connected. */
     JW_EPIPE = 11,        /* The peer is gone. */
-    JW_EISCONN = 12,      /* The socket is connected already. */
+    JW_EISCONN = 12,      /* The socket is connected, or was. */
     JW_EADDRINUSE = 13,   /* A live socket has this name. */
     JW_ECONNREFUSED = 14, /* No live socket of this name listens. */
     JW_EPROTOTYPE = 15,   /* The listener is of the other type. */
@@ -161,7 +161,7 @@ struct jw_file {
     uint32_t kind;     /* The kind of the file (enum jw_kind). */
     uint32_t state;    /* The state of the socket (enum jw_state). */
     uint64_t peer;     /* The inode number of the peer of a connected socket, else 0. */
-    uint64_t messages; /* How many messages the socket has to receive. */
+    uint64_t messages; /* How many messages the socket can receive. */
     uint64_t embryos;  /* How many connections wait to be accepted at the listener. */
 };
 
@@ -370,7 +370,7 @@ int64_t jw_peek(jw_engine *engine, uint32_t pid, uint32_t fd, void *bytes, size_
 /* ---- The collector ---- */
 
 /* Begins a pass of the collector, and writes its number. It costs the same with few files and with
- * many. Answers 0.
+ * many, except once in 2^32 passes. Answers 0.
  * Errors: JW_EBUSY. */
 JW_MUST_USE JW_NONNULL(1, 2)
 int64_t jw_begin(jw_engine *engine, uint64_t *pass);
@@ -400,8 +400,9 @@ int64_t jw_ino(const jw_engine *engine, uint32_t pid, uint32_t fd, uint64_t *ino
 JW_MUST_USE JW_NONNULL(1, 4)
 int64_t jw_next_fd(const jw_engine *engine, uint32_t pid, uint32_t from, uint64_t *ino);
 
-/* Writes what a descriptor is ready for (poll(2)). A plain file is always readable and writable.
- * Answers 0.
+/* Writes what a descriptor is ready for (poll(2)): what its next receive, accept or send finds. So
+ * an idle or hung-up socket is not writable, unlike in Linux. A plain file is always readable and
+ * writable. Answers 0.
  * Errors: JW_ESRCH, JW_EBADF. */
 JW_MUST_USE JW_NONNULL(1, 4)
 int64_t jw_poll(const jw_engine *engine, uint32_t pid, uint32_t fd, struct jw_ready *out);

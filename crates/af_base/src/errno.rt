@@ -31,7 +31,7 @@ pub enum Errno {
     ENOTCONN,
     /// The peer is gone.
     EPIPE,
-    /// The socket is connected already.
+    /// The socket is connected, or was.
     EISCONN,
     /// A live socket has this name.
     EADDRINUSE,

@@ -101,7 +101,8 @@ impl Layer {
     /// Ends the layer with an audit: each number has one seat, and its list is its part of the log,
     /// which is one run from the fresh machine to the engine.
     ///
-    /// It waits for nobody and takes no memory. Its cost is linear in the log and in the lists.
+    /// The error has the fault that the audit found, and all that was handed in. It waits for
+    /// nobody and takes no memory. Its cost is linear in the log and in the lists.
     pub fn close(self, seats: Vec<Seat>) -> Result<Closed, CloseError>
         ensures whole { IfOk result (λ closed. IsWholeBook closed.book seats.items) }
         ensures legal { IfOk result (λ closed.

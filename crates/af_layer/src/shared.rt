@@ -119,7 +119,7 @@ impl Shared {
         engine.open(pid)
     }
 
-    /// Duplicates a descriptor at the lowest free number: [`Engine::dup`] under the lock.
+    /// Duplicates a descriptor at the lowest free one: [`Engine::dup`] under the lock.
     pub fn dup<R: Wait>(&self, rt: &R, pid: Pid, from: Fd) -> Result<Fd, Errno>
         ensures { TellsStep pid (Step.Dup from) Reply.Fd result }
     {
@@ -127,7 +127,7 @@ impl Shared {
         engine.dup(pid, from)
     }
 
-    /// Duplicates a descriptor at this number: [`Engine::dup2`] under the lock.
+    /// Duplicates a descriptor at this one: [`Engine::dup2`] under the lock.
     pub fn dup2<R: Wait>(&self, rt: &R, pid: Pid, from: Fd, to: Fd) -> Result<Fd, Errno>
         ensures { TellsStep pid (Step.Dup2 from to) Reply.Fd result }
     {

@@ -102,8 +102,8 @@ impl<T> Owned<T> {
         &self.engine
     }
 
-    /// Does nothing at run time. It says that the world is sound, that each live plain file
-    /// carries a value, and that no live socket does.
+    /// Does nothing at run time. Shows that the world is sound, that each live plain file carries a
+    /// value, and that no live socket does.
     pub fn lemma_is_sound(&self)
         ensures sound { IsSound self.now.machine.world }
         ensures carried { AreCarried self.now.machine.world self.now.values }
@@ -144,7 +144,7 @@ impl<T> Owned<T> {
         Ok(fd)
     }
 
-    /// Returns the value of the file that a descriptor refers to; nothing where the descriptor is
+    /// Returns the value of the file that a descriptor refers to; `None` where the descriptor is
     /// not open or refers to a socket, or there is no such process. No search.
     pub fn get(&self, pid: Pid, fd: Fd) -> Option<&T>
         ensures { option_copied result
@@ -154,7 +154,7 @@ impl<T> Owned<T> {
         self.values.get(&file)
     }
 
-    /// Lends the value of the file that a descriptor refers to, to write to; nothing where the
+    /// Lends the value of the file that a descriptor refers to, to write to; `None` where the
     /// descriptor is not open or refers to a socket, or there is no such process. No search.
     pub fn get_mut(&mut self, pid: Pid, fd: Fd) -> Option<&mut T>
         ensures* writes_back { sem 𝓛 (lends_value_at T.row self.entry pid fd result) }
@@ -168,7 +168,7 @@ impl<T> Owned<T> {
     }
 
     /// Returns the sockets whose readiness may have changed since `take_released` last returned
-    /// nothing, each once, if that list is kept. If neither a socket nor its peer is listed, `poll`
+    /// `None`, each once, if that list is kept. If neither a socket nor its peer is listed, `poll`
     /// answers as it did then. No search.
     pub fn changed_sockets(&self) -> &[FileRef]
         ensures { TellsChanged self.now.machine.world self.now.machine.since result.now }
@@ -176,10 +176,10 @@ impl<T> Owned<T> {
         self.engine.changed_sockets()
     }
 
-    /// Hands back the value of a file that was freed; nothing where each was handed back. It
-    /// needs no memory. Call it after an event until it returns nothing: that call also empties
-    /// the lists of freed files and of changed readiness, so read `changed_sockets` before. The
-    /// values come in no promised order.
+    /// Hands back the value of a file that was freed; `None` where each was handed back. It needs
+    /// no memory. Call it after an event until it returns `None`: that call also empties the lists
+    /// of freed files and of changed readiness, so read `changed_sockets` before. The values come
+    /// in no promised order.
     pub fn take_released(&mut self) -> Option<T>
         ensures some { IfSome result (λ value. HandsBack self.old value self.new) }
         ensures fewer { OnSome result (map.len self.new.values < map.len self.old.values) }

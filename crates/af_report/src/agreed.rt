@@ -21,7 +21,7 @@ impl Model for Agreed {
 }
 
 impl Agreed {
-    /// Compares the numbers with the recounts over the listing; nothing where one differs.
+    /// Compares the numbers with the recounts over the listing; `None` where one differs.
     pub fn of(listing: &Listing, kept: &Kept) -> Option<Agreed>
         ensures agree { IsSome result ↔ AreRecounts listing.now kept.now }
         ensures files { IfSome result (λ a. a ≡ length kept.now.files.items) }

@@ -20,10 +20,10 @@ use af_steps::Engine;
 use std::alloc::{AllocError, Global};
 
 /// Draws the engine's world in the language of Graphviz (`dot -Tsvg`): processes are boxes, with an
-/// edge for each open number; files are ellipses with their number, their kind and state, their two
-/// counts and their abstract name (unix(7)). A socket has a dotted edge to its peer, a dashed one
-/// to each embryo, and a blue one, with the user who is charged, to each file attached to a message
-/// in its queue. Garbage, which no process can reach, is filled pink.
+/// edge for each open descriptor; files are ellipses with their number, their kind and state, their
+/// two counts and their abstract name (unix(7)). A socket has a dotted edge to its peer, a dashed
+/// one to each embryo, and a blue one, with the user who is charged, to each file attached to a
+/// message in its queue. Garbage, which no process can reach, is filled pink.
 pub fn graph(alloc: Global, engine: &Engine) -> Result<Vec<u8>, AllocError>
     ensures { IfOk result (λ text. IsGraph engine.now.world text.items) }
 {

@@ -7,7 +7,7 @@ use af_steps::{Engine, RunStopped};
 use std::alloc::{AllocError, Global};
 use std::process::Abort;
 
-/// A process starts, and opens and closes a number 50,000 times.
+/// A process starts, and opens and closes a descriptor 50,000 times.
 fn rounds(alloc: Global) -> Result<Vec<Event>, AllocError> {
     let mut events = Vec::new(alloc);
     events.push(Event::Spawn {

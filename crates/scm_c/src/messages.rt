@@ -12,7 +12,7 @@ use af_base::limits::{MAX_BYTES, SCM_MAX_FD};
 use arrayvec::ArrayVec;
 use std::alloc::Global;
 
-/// As many numbers as a message may have, and one more: with that many it is refused.
+/// As many descriptors as a message may have, and one more: with that many it is refused.
 const MOST: usize = SCM_MAX_FD + 1;
 
 /// The outcome of a receive or a peek, beside its bytes and descriptors.
@@ -59,7 +59,8 @@ pub extern "C" fn jw_send(
     }
 }
 
-/// Puts the first of these numbers into an empty list: all that a message may have, and one more.
+/// Puts the first of these descriptors into an empty list: as many as a message may have, and one
+/// more.
 fn push_first(fds: &[u32], first: &mut ArrayVec<Fd, MOST>)
     requires { first.old.items ≡ [] }
     ensures { first.new.items ≡ take MOST fds.now }
@@ -202,7 +203,7 @@ pub(crate) fn write_bytes(from: &[u8], to: &mut [u8])
     to[..count].copy_from_slice(&from[..count]);
 }
 
-/// Writes these numbers over the beginning of the place, as many as fit.
+/// Writes these descriptors over the beginning of the place, as many as fit.
 fn write_numbers(from: &[Fd], to: &mut [u32])
     ensures { to.new ≡ over from.now to.old }
 {

@@ -20,7 +20,7 @@ pub struct CFinished {
 }
 
 /// Begins a pass of the collector, and writes its number. It costs the same with few files and with
-/// many. Answers 0.
+/// many, except once in 2^32 passes. Answers 0.
 ///
 /// Errors: JW_EBUSY.
 #[must_use]

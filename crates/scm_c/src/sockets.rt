@@ -53,7 +53,7 @@ pub extern "C" fn jw_pair(
     code(&reply)
 }
 
-/// Writes the numbers of a pair.
+/// Writes the descriptors of a pair.
 fn write_pair(reply: &Reply, out: &mut CPair)
     ensures { out.new ≡ pair_written reply.now out.old }
 {

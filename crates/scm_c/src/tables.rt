@@ -80,8 +80,9 @@ pub struct CReady {
     pub hung_up: bool,
 }
 
-/// Writes what a descriptor is ready for (poll(2)). A plain file is always readable and writable.
-/// Answers 0.
+/// Writes what a descriptor is ready for (poll(2)): what its next receive, accept or send finds. So
+/// an idle or hung-up socket is not writable, unlike in Linux. A plain file is always readable and
+/// writable. Answers 0.
 ///
 /// Errors: JW_ESRCH, JW_EBADF.
 #[must_use]

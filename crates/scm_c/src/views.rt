@@ -134,7 +134,7 @@ pub struct CFile {
     pub state: u32,
     /// The inode number of the peer of a connected socket, else 0.
     pub peer: u64,
-    /// How many messages the socket has to receive.
+    /// How many messages the socket can receive.
     pub messages: u64,
     /// How many connections wait to be accepted at the listener.
     pub embryos: u64,

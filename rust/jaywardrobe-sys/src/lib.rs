@@ -66,7 +66,7 @@ pub const JW_ENOBUFS: i64 = 9;
 pub const JW_ENOTCONN: i64 = 10;
 /// The peer is gone.
 pub const JW_EPIPE: i64 = 11;
-/// The socket is connected already.
+/// The socket is connected, or was.
 pub const JW_EISCONN: i64 = 12;
 /// A live socket has this name.
 pub const JW_EADDRINUSE: i64 = 13;
@@ -189,7 +189,7 @@ pub struct jw_file {
     pub state: u32,
     /// The inode number of the peer of a connected socket, else 0.
     pub peer: u64,
-    /// How many messages the socket has to receive.
+    /// How many messages the socket can receive.
     pub messages: u64,
     /// How many connections wait to be accepted at the listener.
     pub embryos: u64,
@@ -345,7 +345,7 @@ unsafe extern "C" {
         out: *mut jw_received,
     ) -> i64;
     /// Begins a pass of the collector, and writes its number. It costs the same with few files and
-    /// with many. Answers 0.
+    /// with many, except once in 2^32 passes. Answers 0.
     ///
     /// Errors: JW_EBUSY.
     pub fn jw_begin(engine: *mut jw_engine, pass: *mut u64) -> i64;
@@ -368,8 +368,9 @@ unsafe extern "C" {
     ///
     /// Errors: JW_EBADF; no descriptor is open from there on, or there is no such process.
     pub fn jw_next_fd(engine: *mut jw_engine, pid: u32, from: u32, ino: *mut u64) -> i64;
-    /// Writes what a descriptor is ready for (poll(2)). A plain file is always readable and
-    /// writable. Answers 0.
+    /// Writes what a descriptor is ready for (poll(2)): what its next receive, accept or send
+    /// finds. So an idle or hung-up socket is not writable, unlike in Linux. A plain file is always
+    /// readable and writable. Answers 0.
     ///
     /// Errors: JW_ESRCH, JW_EBADF.
     pub fn jw_poll(engine: *mut jw_engine, pid: u32, fd: u32, out: *mut jw_ready) -> i64;

@@ -296,8 +296,8 @@ impl Engine {
 
 /// The collector.
 impl Engine {
-    /// Begins a pass of the collector, and returns its number. It costs the same with few files
-    /// and with many.
+    /// Begins a pass of the collector, and returns its number. It costs the same with few files and
+    /// with many, except once in 2^32 passes.
     ///
     /// # Errors
     ///

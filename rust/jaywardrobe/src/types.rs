@@ -78,7 +78,7 @@ pub enum File {
         kind: SockType,
         /// The state of the socket.
         state: State,
-        /// How many messages it has to receive.
+        /// How many messages it can receive.
         messages: u64,
         /// How many connections wait to be accepted at it.
         embryos: u64,

@@ -40,7 +40,9 @@ impl Engine {
         }
     }
 
-    /// Returns what a descriptor is ready for (poll(2)). A plain file is readable and writable.
+    /// Returns what a descriptor is ready for (poll(2)): what its next receive, accept or send
+    /// finds. So an idle or hung-up socket is not writable, unlike in Linux. A plain file is always
+    /// readable and writable.
     ///
     /// # Errors
     ///

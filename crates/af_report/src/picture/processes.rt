@@ -17,7 +17,7 @@ fn push_number(text: &mut String, pid: Pid, number: ListedNumber) -> Result<(), 
     writeln!(text, "p{pid} -> f{ino} [label=\"{fd}\"]")
 }
 
-/// Appends an edge for each number of a process.
+/// Appends an edge for each descriptor of a process.
 fn push_numbers(text: &mut String, pid: Pid, numbers: &[ListedNumber]) -> Result<(), AllocError>
     ensures { OnOk result
         (AppendsText text.old text.new (flat_map (λ n. number_text pid n.fd n.ino) numbers.now)) }
@@ -28,14 +28,14 @@ fn push_numbers(text: &mut String, pid: Pid, numbers: &[ListedNumber]) -> Result
     Ok(())
 }
 
-/// Appends a process, without its numbers.
+/// Appends a process, without its descriptors.
 fn push_box(text: &mut String, pid: Pid) -> Result<(), AllocError>
     ensures { OnOk result (AppendsText text.old text.new (box_text pid)) }
 {
     writeln!(text, "p{pid} [shape=box, label=\"process {pid}\"]")
 }
 
-/// Appends a process, and its numbers.
+/// Appends a process, and its descriptors.
 fn push_process(text: &mut String, table: &ListedTable) -> Result<(), AllocError>
     requires { IsRisingTable table.now }
     ensures { OnOk result

@@ -1,4 +1,4 @@
-//! The forms of a line, by its keyword. `specs/Forms.antt` has them as a table, row by row.
+//! The forms of a line, by its keyword. `specs/Lines/Forms.antt` has them as a table, row by row.
 //!
 //! A form that has words is a function that reads its row, and answers nothing where the words do
 //! not fit. [`step`] and [`line`] make a fault of that.

@@ -161,6 +161,7 @@ fn call_beside<R: Threads + Wait + Sync>(
     are_all_done(callers)
 }
 
+/// Returns whether all callers did their calls.
 fn are_all_done(callers: &[Caller]) -> bool {
     for caller in callers {
         if !caller.is_done {

@@ -25,6 +25,7 @@ pub fn measure_input<R: Clock + Print, I: Read + Drop>(
     measure_script(rt, alloc, script.as_str(), setup, runs)
 }
 
+/// Measures a script, without its first lines, this many.
 fn measure_script<R: Clock + Print>(
     rt: &R,
     alloc: Global,
@@ -65,6 +66,7 @@ fn do_line(alloc: Global, engine: &mut Engine, line: &str) -> io::Result<()> {
     }
 }
 
+/// Returns the event of a line. Fails where the line has none, and if memory is refused.
 fn event_of(alloc: Global, line: &str) -> io::Result<Event> {
     match line_of(alloc, line.as_bytes()) {
         Ok(Line::Event(event)) => Ok(event),
