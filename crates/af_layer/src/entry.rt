@@ -58,7 +58,7 @@ impl Form {
     }
 }
 
-/// One event that was done, from which seat, and what was answered.
+/// An event that was done, the seat that it was done from, and what was answered.
 #[derive(Drop)]
 pub struct Entry {
     form: Form,

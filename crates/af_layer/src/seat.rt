@@ -17,7 +17,7 @@ use std::alloc::{AllocError, Global};
 use std::marker::Model;
 use std::sync::{Mutex, Wait};
 
-/// A caller, with all its events and their replies.
+/// A caller, with its events and their replies since its list was emptied last.
 pub struct Seat {
     number: u32,
     list: Vec<EventReply>,
@@ -63,7 +63,8 @@ impl Seat {
         self.number
     }
 
-    /// Returns the events that were done from this seat, in order, each with its reply.
+    /// Returns the events that were done from this seat since its list was emptied last, in order,
+    /// each with its reply.
     pub fn list(&self) -> &[EventReply]
         ensures { result.now ≡ self.now.list }
     {
