@@ -144,10 +144,10 @@ impl Files {
         self.embryos = without_embryo(self.embryos, from);
     }
 
-    /// Drops the reference of a descriptor to a file, which has one. With its last reference, a
-    /// file that has no name and holds nothing is removed immediately, which hangs up its peer,
-    /// unless a running pass may have to mark the file; any other becomes unreferenced. Returns
-    /// whether it was removed. Takes no memory.
+    /// Drops the reference of a descriptor to a file, which has one. A file without another
+    /// reference becomes unreferenced. Or it is removed immediately, and its peer hung up, if it
+    /// has no name, holds nothing, and no running pass may have to mark it. Returns whether it was
+    /// removed. Takes no memory.
     #[inline(always)]
     pub fn drop_descriptor(&mut self, file: &FileRef) -> bool
         requires { IsCounted Table (count_in_map self.old.counts file.now) }

@@ -36,8 +36,8 @@ pub enum CallError {
 
 /// An engine, and the log of all that it did since the log was taken last.
 ///
-/// The log is legal: each entry is of one of the seats, and the events with their replies lead from
-/// the machine at the last [`Book::take_log`], or the fresh one, to the one that the engine shows.
+/// The log is legal: each entry is of one of the seats. Its events with their replies lead to the
+/// machine that the engine shows, from that at the last [`Book::take_log`], or the fresh one.
 pub struct Book {
     alloc: Global,
     seats: u32,

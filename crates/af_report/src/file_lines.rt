@@ -33,9 +33,9 @@ fn push_line(
     Ok(())
 }
 
-/// Writes the table: a header, and a line for each live file by rising inode number. It says how
-/// many places hold the file and how many of these are in queues, its kind and state, how many
-/// messages and embryos wait at it, its live peer, and its abstract name (unix(7)).
+/// Writes the table: a header, and a line for each live file by rising inode number. A line has how
+/// many places hold the file, and how many of these are in queues; its kind and state; how many
+/// messages and embryos wait at it; its live peer; and its abstract name (unix(7)).
 pub fn table(alloc: Global, engine: &Engine) -> Result<Vec<u8>, AllocError>
     ensures { IfOk result (λ text. text.items ≡ table_text engine.now.world) }
 {

@@ -99,8 +99,8 @@ impl Checked {
     }
 }
 
-/// Counts the live files and the garbage, where each number that the engine keeps of a live file or
-/// a user, and the total, is the recount over plain lists of all that holds a file. Else `None`,
+/// Counts the live files and the garbage. Compares each number that the engine keeps, of live
+/// files, of users and in all, with its recount over plain lists. `None` says that one differs,
 /// which no engine gives.
 pub fn count(alloc: Global, engine: &Engine) -> Result<Option<Checked>, AllocError>
     ensures agree { IfOk result IsSome }

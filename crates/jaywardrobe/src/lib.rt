@@ -24,10 +24,10 @@
 //!
 //! Each call of [`Engine`] is one event of a small plain machine, which has tables, queues and no
 //! count. It is answered as the machine says, or refused by the first test that fits, and then
-//! nothing has changed. Counts and totals are recounts of the machine's places. A pass of the
-//! collector frees exactly the files that no chain of queues and backlogs reached from a table when
-//! it began, and otherwise only unreferenced files. All of that is proved. CALLING.md has each call
-//! in a line.
+//! nothing has changed. Counts and totals are recounts of the machine's places. A pass that is done
+//! has freed each file that no chain of queues and backlogs reached from a table when it began. Any
+//! other file that it freed was unreferenced. All of that is proved. CALLING.md has each call in a
+//! line.
 #![tactic(auto)]
 
 pub mod layer;

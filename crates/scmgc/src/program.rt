@@ -190,9 +190,9 @@ fn play_file<H: Files, W: Write, E: Write>(
     }
 }
 
-/// Does the task that these words name, over these streams, and answers the exit status: 0, or 1
-/// for a failed run, play or race or where there is no memory to read the command line, or 2 for a
-/// line of a run or a command line that cannot be read.
+/// Does the task that these words name, over these streams, and answers the exit status. It is 0;
+/// or 1 for a failed run, play or race, or without memory to read the command line; or 2 for a line
+/// of a run or a command line that cannot be read.
 ///
 /// The first word is the program's name. A fault is one line on the error stream. The style is that
 /// of a script that is played from the input.

@@ -1,8 +1,9 @@
 //! A race: workers on one layer, each with a script of its own, and a collector beside them.
 //!
 //! A caller wants [`Race::run`], or [`LongRace::run`] where the log is taken at checkpoints. Each
-//! starts a process for each worker, lets all threads work, lets the children exit that the workers
-//! forked, ends the pass that runs, makes a last one over all that is left, and ends with an audit.
+//! starts a process for each worker, and lets all threads work. Then the children exit that the
+//! workers forked, the pass that runs is ended, a last one is made over all that is left, and an
+//! audit follows.
 
 mod fault;
 mod finish;

@@ -1,8 +1,8 @@
 //! The workload of a race: what each worker asks of the layer, drawn from a seed.
 //!
 //! A caller wants [`make_script`], or a [`Source`], which makes it in parts. The script has an
-//! opening, which makes a listener and a pair of sockets, then an event for each word of a
-//! generator, by the table of `event_of_word` (`table`), and at the end the worker's exit.
+//! opening, which makes a listener and a pair of sockets. Then come an event for each word of a
+//! generator, by the table of `event_of_word` (`table`), and the worker's exit.
 
 mod script;
 mod source;
