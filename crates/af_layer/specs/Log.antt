@@ -8,7 +8,7 @@ use Rattle.af_base.specs.declared.limits.TheConstants.{MAX_SEATS}
 use Rattle.af_base.specs.Pass.{Machine}
 use Rattle.af_base.specs.Run.{Run, fresh}
 
--- One event that was done, from which seat, and what was answered.
+-- An event that was done, the seat that it was done from, and what was answered.
 pub record Entry : Type 0 where
   pub seat : ℕ
   pub event : Event

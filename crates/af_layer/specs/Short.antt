@@ -1,4 +1,4 @@
--- Events and replies in few words, and the entries that are kept so. The definitions are of this
+-- Events and replies in few words, and the entries that are kept so. The definitions are this
 -- project's own.
 use Rattle.af_base.specs.declared.events.Event.{Event}
 use Rattle.af_base.specs.declared.events.Event.TheVariants as event
