@@ -15,7 +15,7 @@
  *
  * Every call answers 0 or more, or a negative error: the negative of one of `enum jw_error`. After
  * an error the engine is as it was, and nothing was written to the caller's places. jw_engine_new
- * alone is otherwise: an engine that was in the handle is freed, also where the new one is refused.
+ * alone differs: an engine that was in the handle is freed, also where the new one is refused.
  *
  * Where several errors fit, the first of those that a call lists here is answered.
  *
@@ -120,7 +120,7 @@ enum jw_kind {
     JW_PLAIN = 3      /* A plain file. */
 };
 
-/* Whom a socket can talk to. */
+/* The connection state of a socket. */
 enum jw_state {
     JW_IDLE = 0,      /* Was never connected, and does not listen. */
     JW_LISTENING = 1, /* Waits for connections. */

@@ -19,7 +19,7 @@ pub record Message : Type 0 where
   pub attached : List ℕ
   pub user : ℕ
 
--- A socket (unix(7)): its type, whom it can talk to, its abstract name if it has one, the messages
+-- A socket (unix(7)): its type, its connection state, its abstract name if it has one, the messages
 -- that it can receive, and the embryos that wait to be accepted.
 pub record Socket : Type 0 where
   pub kind : SockType

@@ -35,7 +35,7 @@ abbrev pub type_word : SockType → List ℕ
 type_word Stream = codes "stream"
 type_word Seqpacket = codes "seqpacket"
 
--- The word for whom a socket can talk to.
+-- The word for the state of a socket.
 abbrev pub state_word : State → List ℕ
 state_word state.Idle = codes "idle"
 state_word (state.Listening most) = codes "listening"
@@ -76,8 +76,8 @@ name_of (AsSocket s) = name_text s.name
 
 -- ---- lines
 
--- The columns of a file: its number, its two counts, what it is, whom it can talk to, how many
--- messages and embryos wait, its peer and its name.
+-- The columns of a file: its number, its two counts, its kind, its state, how many messages and
+-- embryos wait, its peer and its name.
 abbrev pub columns : World → ℕ → File → List (List ℕ)
 columns w f x =
     right 8 f ∷ right 7 (refs w f) ∷ right 7 (inflight w f) ∷ left 9 (kind_of x) ∷ left 9 (state_of x)

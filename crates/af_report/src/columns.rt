@@ -71,7 +71,7 @@ fn peer_number(state: &State) -> u64
     }
 }
 
-/// Appends what a file is and whom it can talk to.
+/// Appends the kind and the state of a file.
 fn push_kind(text: &mut String, kind: &str, state: &str) -> Result<(), AllocError>
     ensures { OnOk result
         (AppendsText text.old text.new (joined (left 9 kind.now ∷ left 9 state.now ∷ [] ∷ []))) }
@@ -97,7 +97,7 @@ fn push_waiting(
     Ok(())
 }
 
-/// Appends what a live file is, whom it can talk to, what waits at it, and its peer.
+/// Appends a live file's kind and state, how many messages and embryos wait at it, and its peer.
 pub fn push_file(text: &mut String, engine: &Engine, file: &FileRef) -> Result<(), AllocError>
     requires { IsLive engine.now.world file.now }
     ensures { (x : File) → map.get engine.now.world.files file.now ≡ Some x

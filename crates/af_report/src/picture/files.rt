@@ -14,7 +14,7 @@ use af_base::ids::{FileRef, Ino};
 use af_steps::{Engine, FileInfo};
 use std::alloc::AllocError;
 
-/// Appends what a live file is, and whom it can talk to, if it is a socket.
+/// Appends the kind of a live file, and its state, if it is a socket.
 fn push_kind(text: &mut String, engine: &Engine, file: &FileRef) -> Result<(), AllocError>
     requires { IsLive engine.now.world file.now }
     ensures { (x : File) → map.get engine.now.world.files file.now ≡ Some x
