@@ -9,7 +9,7 @@ use Rattle.af_layer.specs.Audit.{list_at, nobody}
 use Rattle.af_layer.specs.Drive.{Collects, Driven, IsFirstShort, Made, NoTurn, Part, Script, Work, turns_of, works_of}
 use Rattle.af_layer.specs.Log.{Pair}
 use Rattle.af_layer.specs.Seats.{SeatView}
-use Rattle.af_layer.specs.Workers.{AllWorked, Ends, LeastBelow, Worked, WorkerView, job, jobs_of, seats_of}
+use Rattle.af_layer.specs.Workers.{AllWorked, Ends, LeastBelow, Worked, WorkerView, seats_of, worker_of, workers_of}
 
 -- Where nothing was done, a beginning was.
 still : (work : Option Work) (old : List Pair) → Part work old old
@@ -27,23 +27,23 @@ driven-still seats works = record { count = refl; numbers = λ i lt. refl; lists
 pub works_count : (scripts : List (Vec Event Global)) (collector : Option Turns) → length (works_of scripts collector) ≡ length scripts + length (turns_of collector)
 works_count scripts collector = length-append (map (λ v. Script v.items) scripts) (turns_of collector) ∙ ap (λ n. n + length (turns_of collector)) (length-map scripts (λ v. Script v.items))
 
--- There are as many jobs as seats.
-jobs-count : (seats : List SeatView) (works : List Work) → length (jobs_of seats works) ≡ length seats
-jobs-count [] works = refl
-jobs-count (s ∷ seats) [] = omega (arith, jobs-count seats [])
-jobs-count (s ∷ seats) (work ∷ works) = omega (arith, jobs-count seats works)
+-- There are as many workers as seats.
+workers-count : (seats : List SeatView) (works : List Work) → length (workers_of seats works) ≡ length seats
+workers-count [] works = refl
+workers-count (s ∷ seats) [] = omega (arith, workers-count seats [])
+workers-count (s ∷ seats) (work ∷ works) = omega (arith, workers-count seats works)
 
--- The job at a position is of the seat and the work there.
-jobs-at : (seats : List SeatView) (works : List Work) (i : ℕ) (other : WorkerView) → i < length seats → slice_index_or (jobs_of seats works) i other ≡ job (slice_index_or seats i nobody) (slice_get works i)
-jobs-at [] works i other lt = absurd (omega (arith, lt))
-jobs-at (s ∷ seats) [] zero other lt = refl
-jobs-at (s ∷ seats) [] (suc i) other lt = jobs-at seats [] i other (omega (arith, lt))
-jobs-at (s ∷ seats) (work ∷ works) zero other lt = refl
-jobs-at (s ∷ seats) (work ∷ works) (suc i) other lt = jobs-at seats works i other (omega (arith, lt))
+-- The worker at a position has the seat and the work there.
+workers-at : (seats : List SeatView) (works : List Work) (i : ℕ) (other : WorkerView) → i < length seats → slice_index_or (workers_of seats works) i other ≡ worker_of (slice_index_or seats i nobody) (slice_get works i)
+workers-at [] works i other lt = absurd (omega (arith, lt))
+workers-at (s ∷ seats) [] zero other lt = refl
+workers-at (s ∷ seats) [] (suc i) other lt = workers-at seats [] i other (omega (arith, lt))
+workers-at (s ∷ seats) (work ∷ works) zero other lt = refl
+workers-at (s ∷ seats) (work ∷ works) (suc i) other lt = workers-at seats works i other (omega (arith, lt))
 
 -- The workers, if there are none.
 idle : WorkerView
-idle = job nobody None
+idle = worker_of nobody None
 
 -- The results of workers with and without a fault.
 made-or-short : (work : Option Work) (old : List Pair) (f : Option CallError) (new : List Pair) → Ends work old f new → Part work old new
@@ -55,19 +55,19 @@ not-below : (f : Option CallError) (k n : ℕ) → IfSome f (λ e. k ≤ n) → 
 not-below None k n least lt = refl
 not-below (Some e) k n least lt = absurd (omega (arith, least, lt))
 
-module _ (seats : List SeatView) (works : List Work) (jobs done : List WorkerView) (after : List SeatView) (is : jobs ≡ jobs_of seats works) (count : length done ≡ length jobs) (worked : AllWorked jobs done) (back : after ≡ seats_of done) where
-  -- The job at a position when its worker is done.
+module _ (seats : List SeatView) (works : List Work) (workers done : List WorkerView) (after : List SeatView) (is : workers ≡ workers_of seats works) (count : length done ≡ length workers) (worked : AllWorked workers done) (back : after ≡ seats_of done) where
+  -- The worker at a position when it is done.
   done-at : ℕ → WorkerView
   done-at i = slice_index_or done i idle
 
-  -- There are as many jobs then.
+  -- There are as many workers then.
   done-count : length done ≡ length seats
-  done-count = count ∙ ap length is ∙ jobs-count seats works
+  done-count = count ∙ ap length is ∙ workers-count seats works
 
-  -- Its worker had the seat and the work of that position.
-  worked-at : (i : ℕ) → i < length seats → Worked (job (slice_index_or seats i nobody) (slice_get works i)) (done-at i)
+  -- It had the seat and the work of that position.
+  worked-at : (i : ℕ) → i < length seats → Worked (worker_of (slice_index_or seats i nobody) (slice_get works i)) (done-at i)
   unfolding done-at
-  worked-at i lt = subst (λ j. Worked j (done-at i)) (ap (λ l. slice_index_or l i idle) is ∙ jobs-at seats works i idle lt) (worked i idle (omega (arith, lt, done-count, count)))
+  worked-at i lt = subst (λ j. Worked j (done-at i)) (ap (λ l. slice_index_or l i idle) is ∙ workers-at seats works i idle lt) (worked i idle (omega (arith, lt, done-count, count)))
 
   -- Its seat comes back.
   seat-at : (i : ℕ) → i < length seats → slice_index_or after i nobody ≡ (done-at i).seat

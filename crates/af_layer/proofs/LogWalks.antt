@@ -49,13 +49,13 @@ tracks-start log list k = (omega arith, (λ whole. whole, λ whole. whole))
 pub entry-at : (log : List Entry) (i : ℕ) (e : Entry) → i < length log → e ≡ get_or log i e → drop i log ≡ e ∷ drop (i + 1) log
 entry-at log i e here is = let next : suc i ≡ i + 1 = omega arith in drop-cons log i e here ∙ (λ j. sym is j ∷ drop (next j) log)
 
-module _ (log : List Entry) (seats : List SeatView) (places : List ℕ) (cursors : List (Option ℕ)) (i : ℕ) where
+module _ (log : List Entry) (seats : List SeatView) (positions : List ℕ) (cursors : List (Option ℕ)) (i : ℕ) where
   -- One entry moves the cursor of its seat alone.
-  pub tracks-next : (e : Entry) (r : Option ℕ) → drop i log ≡ e ∷ drop (i + 1) log → e.seat < length cursors → AllTrack log seats places i cursors
-      → Tracks log (list_at seats (slice_index places e.seat)) e.seat (i + 1) r → AllTrack log seats places (i + 1) (slice_set cursors e.seat r)
+  pub tracks-next : (e : Entry) (r : Option ℕ) → drop i log ≡ e ∷ drop (i + 1) log → e.seat < length cursors → AllTrack log seats positions i cursors
+      → Tracks log (list_at seats (slice_index positions e.seat)) e.seat (i + 1) r → AllTrack log seats positions (i + 1) (slice_set cursors e.seat r)
   tracks-next e r turn fits all mine k lt = elim (cases_eq k e.seat) [
-    | inl same ↦ subst (λ n. Tracks log (list_at seats (slice_index places n)) n (i + 1) (slice_index_or (slice_set cursors e.seat r) n None)) (sym same)
-        (subst (Tracks log (list_at seats (slice_index places e.seat)) e.seat (i + 1)) (sym (get_or-set_same cursors e.seat r None fits)) mine)
-    | inr other ↦ subst (Tracks log (list_at seats (slice_index places k)) k (i + 1)) (sym (get_or-set_other cursors e.seat k r None other))
-        (tracks-other log (list_at seats (slice_index places k)) e i turn k (slice_index_or cursors k None) (λ same. other (sym same)) (all k lt))
+    | inl same ↦ subst (λ n. Tracks log (list_at seats (slice_index positions n)) n (i + 1) (slice_index_or (slice_set cursors e.seat r) n None)) (sym same)
+        (subst (Tracks log (list_at seats (slice_index positions e.seat)) e.seat (i + 1)) (sym (get_or-set_same cursors e.seat r None fits)) mine)
+    | inr other ↦ subst (Tracks log (list_at seats (slice_index positions k)) k (i + 1)) (sym (get_or-set_other cursors e.seat k r None other))
+        (tracks-other log (list_at seats (slice_index positions k)) e i turn k (slice_index_or cursors k None) (λ same. other (sym same)) (all k lt))
   ]

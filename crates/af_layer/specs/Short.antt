@@ -5,8 +5,8 @@ use Rattle.af_base.specs.declared.events.Event.TheVariants as event
 use Rattle.af_base.specs.declared.events.Reply.{Reply}
 use Rattle.af_base.specs.declared.events.Reply.TheVariants as reply
 use Rattle.af_base.specs.declared.events.Step.TheVariants as step
-use Rattle.af_layer.specs.declared.entry.Form.{Form}
-use Rattle.af_layer.specs.declared.entry.Form.TheVariants as form
+use Rattle.af_layer.specs.declared.entry.KeptAs.{KeptAs}
+use Rattle.af_layer.specs.declared.entry.KeptAs.TheVariants as kept
 use Rattle.af_layer.specs.declared.short.ShortEvent.{ShortEvent}
 use Rattle.af_layer.specs.declared.short.ShortEvent.TheVariants as asked
 use Rattle.af_layer.specs.declared.short.ShortReply.{ShortReply}
@@ -45,10 +45,10 @@ turn_reply_of turned.Working = reply.Working
 turn_reply_of (turned.Done pass reclaimed) = reply.Done pass reclaimed
 turn_reply_of (turned.Refused error) = reply.Refused error
 
--- The entry that is kept in this form.
-abbrev pub entry_of : Form → Entry
-entry_of (form.Step seat e r) = record { seat = seat; event = event_of e; reply = reply_of r }
-entry_of (form.Begin seat r) = record { seat = seat; event = event.Begin; reply = turn_reply_of r }
-entry_of (form.Slice seat budget r) = record { seat = seat; event = event.Slice budget; reply = turn_reply_of r }
-entry_of (form.Pass seat r) = record { seat = seat; event = event.Pass; reply = turn_reply_of r }
-entry_of (form.Whole seat both) = record { seat = seat; event = both.value.0; reply = both.value.1 }
+-- The entry that is kept so.
+abbrev pub entry_of : KeptAs → Entry
+entry_of (kept.Step seat e r) = record { seat = seat; event = event_of e; reply = reply_of r }
+entry_of (kept.Begin seat r) = record { seat = seat; event = event.Begin; reply = turn_reply_of r }
+entry_of (kept.Slice seat budget r) = record { seat = seat; event = event.Slice budget; reply = turn_reply_of r }
+entry_of (kept.Pass seat r) = record { seat = seat; event = event.Pass; reply = turn_reply_of r }
+entry_of (kept.Whole seat both) = record { seat = seat; event = both.value.0; reply = both.value.1 }

@@ -6,16 +6,16 @@ use Rattle.af_layer.specs.Seats.{SeatView}
 use Rattle.af_layer.specs.Audit.{list_at, number_at}
 
 -- The positions of the first i seats are kept under their numbers, and each is in the list.
-pub record ArePlacesOf (i : ℕ) (seats : List SeatView) (places : List ℕ) : Type 0 where
-  pub count : length places ≡ MAX_SEATS + 1
-  pub within : (k : ℕ) → k < length places → slice_index places k < length seats
-  pub right : (m : ℕ) → m < i → slice_index places (number_at seats m) ≡ m
+pub record ArePositionsOf (i : ℕ) (seats : List SeatView) (positions : List ℕ) : Type 0 where
+  pub count : length positions ≡ MAX_SEATS + 1
+  pub within : (k : ℕ) → k < length positions → slice_index positions k < length seats
+  pub right : (m : ℕ) → m < i → slice_index positions (number_at seats m) ≡ m
 
 -- Each number from 1 to n has the position of its seat.
-pub record ArePlaces (n : ℕ) (seats : List SeatView) (places : List ℕ) : Type 0 where
-  pub count : length places ≡ MAX_SEATS + 1
-  pub within : (k : ℕ) → k < length places → slice_index places k < length seats
-  pub right : (k : ℕ) → 1 ≤ k → k ≤ n → number_at seats (slice_index places k) ≡ k
+pub record ArePositions (n : ℕ) (seats : List SeatView) (positions : List ℕ) : Type 0 where
+  pub count : length positions ≡ MAX_SEATS + 1
+  pub within : (k : ℕ) → k < length positions → slice_index positions k < length seats
+  pub right : (k : ℕ) → 1 ≤ k → k ≤ n → number_at seats (slice_index positions k) ≡ k
 
 -- After i entries the rest of a list is what the rest of the log has of its seat, exactly where the
 -- whole is the whole.
@@ -30,5 +30,5 @@ Tracks log list k i (Some cursor) = (cursor ≤ length list) × Leaves log k lis
 
 -- So it is with all cursors.
 abbrev pub AllTrack : List Entry → List SeatView → List ℕ → ℕ → List (Option ℕ) → Type 0
-AllTrack log seats places i cursors = (k : ℕ) → k < length places
-    → Tracks log (list_at seats (slice_index places k)) k i (slice_index_or cursors k None)
+AllTrack log seats positions i cursors = (k : ℕ) → k < length positions
+    → Tracks log (list_at seats (slice_index positions k)) k i (slice_index_or cursors k None)

@@ -4,7 +4,7 @@ ghost use Rattle.std.specs.Prelude.{MatchBool, MatchOption, drop, length, slice_
 ghost use Rattle.af_layer.specs.Log.{Entry as LogEntry};
 ghost use Rattle.af_layer.specs.Audit.{HasFault, IsAudited, IsMissing, IsStranger, IsWholeBook};
 ghost use Rattle.af_layer.specs.Audit.{IsWrong, NoStranger, NoneMissing, number_at};
-ghost use Rattle.af_layer.specs.Walk.{AllTrack, ArePlaces, Tracks};
+ghost use Rattle.af_layer.specs.Walk.{AllTrack, ArePositions, Tracks};
 
 use crate::book::Book;
 use crate::entry::{Entry, EventReply};
@@ -69,18 +69,18 @@ fn first_missing(seats: &[Seat], count: u32) -> Option<u32>
 }
 
 /// Returns the position of the seat of each number in the list.
-fn places(seats: &[Seat], count: u32) -> [usize; NUMBERS]
+fn positions(seats: &[Seat], count: u32) -> [usize; NUMBERS]
     requires range { (1 ≤ count) × (count ≤ MAX_SEATS) }
     requires known { NoStranger count seats.now }
     requires all_there { NoneMissing count seats.now }
-    ensures { ArePlaces count seats.now result }
+    ensures { ArePositions count seats.now result }
 {
-    let mut places = [0; NUMBERS];
+    let mut positions = [0; NUMBERS];
     for i in 0..seats.len() {
         let seat = &seats[i];
-        places[seat.number() as usize] = i;
+        positions[seat.number() as usize] = i;
     }
-    places
+    positions
 }
 
 /// Returns how much of a list was in the log, after one entry more of its seat; `None` if the list
@@ -100,17 +100,17 @@ fn advance(list: &[EventReply], cursor: Option<usize>, entry: &Entry) -> Option<
 }
 
 /// Reads the log once, and moves for each entry the cursor of its seat.
-fn walk(log: &[Entry], seats: &[Seat], places: &[usize], cursors: &mut [Option<usize>])
-    requires cursors { length cursors.old ≡ length places.now }
-    requires places { (k : ℕ) → k < length places.now
-        → slice_index places.now k < length seats.now }
-    requires log { All (λ e. e.seat < length places.now) log.now }
-    requires start { AllTrack log.now seats.now places.now 0 cursors.old }
-    ensures { AllTrack log.now seats.now places.now (length log.now) cursors.new }
+fn walk(log: &[Entry], seats: &[Seat], positions: &[usize], cursors: &mut [Option<usize>])
+    requires cursors { length cursors.old ≡ length positions.now }
+    requires positions { (k : ℕ) → k < length positions.now
+        → slice_index positions.now k < length seats.now }
+    requires log { All (λ e. e.seat < length positions.now) log.now }
+    requires start { AllTrack log.now seats.now positions.now 0 cursors.old }
+    ensures { AllTrack log.now seats.now positions.now (length log.now) cursors.new }
 {
     for entry in log {
         let number = entry.seat() as usize;
-        let seat = &seats[places[number]];
+        let seat = &seats[positions[number]];
         cursors[number] = advance(seat.list(), cursors[number], entry);
     }
 }
@@ -125,12 +125,12 @@ fn first_wrong(log: &[Entry], seats: &[Seat], count: u32) -> Option<u32>
         ((k : ℕ) → 1 ≤ k → k ≤ count → IsAudited log.now seats.now k)
         (λ k. (1 ≤ k) × (k ≤ count) × IsWrong log.now seats.now k) }
 {
-    let places = places(seats, count);
+    let positions = positions(seats, count);
     let mut cursors = [Some(0); NUMBERS];
-    walk(log, seats, &places, &mut cursors);
+    walk(log, seats, &positions, &mut cursors);
     for before in 0..count {
         let number = before + 1;
-        let seat = &seats[places[number as usize]];
+        let seat = &seats[positions[number as usize]];
         if cursors[number as usize] != Some(seat.list().len()) {
             return Some(number);
         }

@@ -2,13 +2,13 @@
 ghost use Rattle.std.specs.Prelude.{◌≡◌, ◌<◌, ◌≤◌, ◌↔◌, [], IfErr, IfOk, IsTrue, OnOk, length};
 ghost use Rattle.std.specs.Prelude.{vec_capacity, vec_len};
 ghost use Rattle.af_layer.specs.Drive.{AtFault, Driven, Made, Part, works_of};
-ghost use Rattle.af_layer.specs.Workers.{LeastBelow, jobs_of, seats_of};
+ghost use Rattle.af_layer.specs.Workers.{LeastBelow, seats_of, workers_of};
 
 use crate::book::CallError;
 use crate::layer::Layer;
 use crate::origin::Origin;
 use crate::seat::Seat;
-use crate::workers::{Assignment, Gate, Turns, Worker, run};
+use crate::workers::{Gate, Turns, Work, Worker, run};
 use af_base::events::Event;
 use std::alloc::{AllocError, Global};
 use std::sync::Wait;
@@ -79,19 +79,19 @@ fn hand_out(
 ) -> Vec<Worker>
     requires empty { workers.items ≡ [] }
     requires room { vec_len seats ≤ vec_capacity workers }
-    ensures jobs { result.items ≡ jobs_of seats.items (works_of scripts.items collector) }
+    ensures workers { result.items ≡ workers_of seats.items (works_of scripts.items collector) }
     ensures len { vec_len result ≡ vec_len seats }
 {
     let mut scripts = scripts.into_iter();
     let mut collector = collector;
     for seat in seats {
-        let task = match scripts.next() {
-            Some(script) => Some(Assignment::Script(script)),
-            None => collector.take().map(Assignment::Collect),
+        let work = match scripts.next() {
+            Some(script) => Some(Work::Script(script)),
+            None => collector.take().map(Work::Collect),
         };
         workers.push_reserved(Worker {
             seat,
-            task,
+            work,
             fault: None,
         });
     }

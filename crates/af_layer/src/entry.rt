@@ -19,7 +19,7 @@ pub type Pair = Box<(Event, Reply)>;
 
 /// How an entry is kept, after the number of its seat.
 #[derive(Drop)]
-pub enum Form {
+pub enum KeptAs {
     /// A process started or made a step.
     Step(u8, ShortEvent, ShortReply),
     /// The collector began a pass.
@@ -32,36 +32,36 @@ pub enum Form {
     Whole(u8, Pair),
 }
 
-impl Form {
+impl KeptAs {
     /// Keeps an event of the collector in few words; `None` if it is a process's.
-    fn of_turn(seat: u8, event: &Event, reply: &Reply) -> Option<Form>
-        ensures { IfSome result (λ form. entry_of form
+    fn of_turn(seat: u8, event: &Event, reply: &Reply) -> Option<KeptAs>
+        ensures { IfSome result (λ kept. entry_of kept
             ≡ record { seat = seat; event = event.now; reply = reply.now }) }
     {
         let reply = TurnReply::of(reply)?;
         match event {
-            Event::Begin => Some(Form::Begin(seat, reply)),
-            Event::Slice(budget) => Some(Form::Slice(seat, *budget, reply)),
-            Event::Pass => Some(Form::Pass(seat, reply)),
+            Event::Begin => Some(KeptAs::Begin(seat, reply)),
+            Event::Slice(budget) => Some(KeptAs::Slice(seat, *budget, reply)),
+            Event::Pass => Some(KeptAs::Pass(seat, reply)),
             _ => None,
         }
     }
 
     /// Keeps an event in the box that is there, and leaves none.
-    fn whole(seat: u8, event: Event, reply: Reply, spare: &mut Option<Pair>) -> Form
+    fn whole(seat: u8, event: Event, reply: Reply, spare: &mut Option<Pair>) -> KeptAs
         requires { IsSome spare.old }
         ensures { entry_of result ≡ record { seat = seat; event = event; reply = reply } }
     {
         let mut pair = spare.take().unwrap();
         *pair = (event, reply);
-        Form::Whole(seat, pair)
+        KeptAs::Whole(seat, pair)
     }
 }
 
 /// An event that was done, the seat that it was done from, and what was answered.
 #[derive(Drop)]
 pub struct Entry {
-    form: Form,
+    kept: KeptAs,
 }
 
 impl Model for Entry {
@@ -70,14 +70,14 @@ impl Model for Entry {
 
     ghost Value = { Entry };
 
-    ghost view = { λ e. entry_of e.form };
+    ghost view = { λ e. entry_of e.kept };
 }
 
 impl Entry {
     /// Makes an entry that is to be dropped unread.
     pub(crate) fn blank() -> Entry {
         Entry {
-            form: Form::Pass(0, TurnReply::Working),
+            kept: KeptAs::Pass(0, TurnReply::Working),
         }
     }
 
@@ -88,7 +88,7 @@ impl Entry {
             ≡ record { seat = seat; event = event_of event.now; reply = reply_of reply.now } }
     {
         Entry {
-            form: Form::Step(seat, *event, *reply),
+            kept: KeptAs::Step(seat, *event, *reply),
         }
     }
 
@@ -97,23 +97,23 @@ impl Entry {
         requires { IsSome spare.old }
         ensures { result ≡ record { seat = seat; event = event; reply = reply } }
     {
-        let form = match Form::of_turn(seat, &event, &reply) {
-            Some(form) => form,
-            None => Form::whole(seat, event, reply, spare),
+        let kept = match KeptAs::of_turn(seat, &event, &reply) {
+            Some(kept) => kept,
+            None => KeptAs::whole(seat, event, reply, spare),
         };
-        Entry { form }
+        Entry { kept }
     }
 
     /// Returns the number of the seat, from 1.
     pub fn seat(&self) -> u32
         ensures { result ≡ self.now.seat }
     {
-        match &self.form {
-            Form::Step(seat, _, _)
-            | Form::Begin(seat, _)
-            | Form::Slice(seat, _, _)
-            | Form::Pass(seat, _)
-            | Form::Whole(seat, _) => u32::from(*seat),
+        match &self.kept {
+            KeptAs::Step(seat, _, _)
+            | KeptAs::Begin(seat, _)
+            | KeptAs::Slice(seat, _, _)
+            | KeptAs::Pass(seat, _)
+            | KeptAs::Whole(seat, _) => u32::from(*seat),
         }
     }
 
@@ -121,12 +121,12 @@ impl Entry {
     pub fn event(&self) -> Cow<'_, Event>
         ensures { cow_value result ≡ self.now.event }
     {
-        match &self.form {
-            Form::Step(_, event, _) => Cow::Owned(event.event()),
-            Form::Begin(_, _) => Cow::Owned(Event::Begin),
-            Form::Slice(_, budget, _) => Cow::Owned(Event::Slice(*budget)),
-            Form::Pass(_, _) => Cow::Owned(Event::Pass),
-            Form::Whole(_, pair) => Cow::Borrowed(&pair.0),
+        match &self.kept {
+            KeptAs::Step(_, event, _) => Cow::Owned(event.event()),
+            KeptAs::Begin(_, _) => Cow::Owned(Event::Begin),
+            KeptAs::Slice(_, budget, _) => Cow::Owned(Event::Slice(*budget)),
+            KeptAs::Pass(_, _) => Cow::Owned(Event::Pass),
+            KeptAs::Whole(_, pair) => Cow::Borrowed(&pair.0),
         }
     }
 
@@ -134,12 +134,12 @@ impl Entry {
     pub fn reply(&self) -> Cow<'_, Reply>
         ensures { cow_value result ≡ self.now.reply }
     {
-        match &self.form {
-            Form::Step(_, _, reply) => Cow::Owned(reply.reply()),
-            Form::Begin(_, reply) | Form::Slice(_, _, reply) | Form::Pass(_, reply) => {
+        match &self.kept {
+            KeptAs::Step(_, _, reply) => Cow::Owned(reply.reply()),
+            KeptAs::Begin(_, reply) | KeptAs::Slice(_, _, reply) | KeptAs::Pass(_, reply) => {
                 Cow::Owned(reply.reply())
             }
-            Form::Whole(_, pair) => Cow::Borrowed(&pair.1),
+            KeptAs::Whole(_, pair) => Cow::Borrowed(&pair.1),
         }
     }
 }

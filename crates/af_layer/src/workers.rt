@@ -46,7 +46,7 @@ pub struct Turns {
 
 /// The work of a seat.
 #[derive(Drop)]
-pub enum Assignment {
+pub enum Work {
     /// The events of a script, in order.
     Script(Vec<Event>),
     /// Turns of a collector.
@@ -57,7 +57,7 @@ pub enum Assignment {
 #[derive(Drop)]
 pub struct Worker {
     pub seat: Seat,
-    pub task: Option<Assignment>,
+    pub work: Option<Work>,
     pub fault: Option<CallError>,
 }
 
@@ -69,7 +69,7 @@ impl Model for Worker {
 
     ghost view = { λ w. record {
       seat = w.seat;
-      work = option_map work_of w.task;
+      work = option_map work_of w.work;
       fault = w.fault;
     } };
 }
@@ -151,13 +151,13 @@ fn collect<R: Wait, O: Origin, G: Gate>(
 }
 
 impl Worker {
-    /// Does what is to be done, up to the first call that is refused.
-    fn work<R: Wait, O: Origin, G: Gate>(&mut self, rt: &R, layer: &Layer<O>, gate: &G)
+    /// Does the work, up to the first call that is refused.
+    fn do_work<R: Wait, O: Origin, G: Gate>(&mut self, rt: &R, layer: &Layer<O>, gate: &G)
         ensures { Worked self.old self.new }
     {
-        let done = match self.task.take() {
-            Some(Assignment::Script(script)) => play(rt, layer, &mut self.seat, script, gate),
-            Some(Assignment::Collect(turns)) => collect(rt, layer, &mut self.seat, turns, gate),
+        let done = match self.work.take() {
+            Some(Work::Script(script)) => play(rt, layer, &mut self.seat, script, gate),
+            Some(Work::Collect(turns)) => collect(rt, layer, &mut self.seat, turns, gate),
             None => Ok(()),
         };
         self.fault = done.err();
@@ -189,7 +189,7 @@ fn work_all<R: Threads + Wait + Sync, O: Origin + Send, G: Gate + Sync>(
         rt,
         workers,
         count,
-        &|_, worker: &mut Worker| { worker.work(rt, layer, gate) },
+        &|_, worker: &mut Worker| { worker.do_work(rt, layer, gate) },
     );
 }
 

@@ -13,16 +13,16 @@ returns-in_default-clause-part g c = driven-still c.args.seats.items (works_of c
 
 pub returns-in-None-clause-done : goal.returns-in-None-clause-done
 returns-in-None-clause-done g c =
-    driven-made c.args.seats.items (works_of c.args.scripts.items c.args.collector) c.hand_out-workers.result.items c.run-workers.result.items c.take_back-seats.result.items c.hand_out-workers.ensures.jobs
+    driven-made c.args.seats.items (works_of c.args.scripts.items c.args.collector) c.hand_out-workers.result.items c.run-workers.result.items c.take_back-seats.result.items c.hand_out-workers.ensures.workers
     c.run-workers.ensures.count c.run-workers.ensures.worked c.take_back-seats.ensures (subst (λ (l : List WorkerView). LeastBelow l (length l) None) c.as_slice-4.ensures.value c.in-None.ensures)
 
 pub returns-in-Some-clause-part : goal.returns-in-Some-clause-part
 returns-in-Some-clause-part g c =
-    driven-part c.args.seats.items (works_of c.args.scripts.items c.args.collector) c.hand_out-workers.result.items c.run-workers.result.items c.take_back-seats.result.items c.hand_out-workers.ensures.jobs
+    driven-part c.args.seats.items (works_of c.args.scripts.items c.args.collector) c.hand_out-workers.result.items c.run-workers.result.items c.take_back-seats.result.items c.hand_out-workers.ensures.workers
     c.run-workers.ensures.count c.run-workers.ensures.worked c.take_back-seats.ensures
 
 pub returns-in-Some-clause-fault : goal.returns-in-Some-clause-fault
 returns-in-Some-clause-fault g c =
-    first-short c.args.seats.items (works_of c.args.scripts.items c.args.collector) c.hand_out-workers.result.items c.run-workers.result.items c.take_back-seats.result.items c.hand_out-workers.ensures.jobs
+    first-short c.args.seats.items (works_of c.args.scripts.items c.args.collector) c.hand_out-workers.result.items c.run-workers.result.items c.take_back-seats.result.items c.hand_out-workers.ensures.workers
     c.run-workers.ensures.count c.run-workers.ensures.worked c.take_back-seats.ensures c.in-Some.number c.in-Some.fault
     (subst (λ (l : List WorkerView). LeastBelow l (length l) (Some (c.in-Some.number, c.in-Some.fault))) c.as_slice-4.ensures.value c.in-Some.ensures)
