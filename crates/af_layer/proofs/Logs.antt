@@ -8,7 +8,7 @@ use Rattle.af_base.specs.Run.{Run, Step}
 use Rattle.af_base.proofs.Runs.{run-push}
 use Rattle.af_layer.specs.declared.book.CallError.{CallError}
 use Rattle.af_layer.specs.declared.book.CallError.TheVariants as fault
-use Rattle.af_layer.specs.Calls.{Answers}
+use Rattle.af_layer.specs.Calls.{RefusedBy}
 use Rattle.af_layer.specs.Log.{Entry, IsLegalFrom, pair_of}
 
 -- An entry whose event and reply are one step is appended.
@@ -22,17 +22,17 @@ logged n a b c log room more e same is low high legal step =
     }))
 
 -- An error of the tests, which is handed on, is answered as they say.
-pub answers-err : (A : Type 0) {B : Type 0} (o : Option CallError) (e : CallError) (r : Result B CallError) → IsErrAnd r (λ x. x ≡ e) → Answers {R = A} o (Err e) → Answers o r
-answers-err A o e (Ok b) made is = absurd made
-answers-err A (Some f) e (Err x) made is = cc
-answers-err A None e (Err x) made is = made ∙ is
+pub refused-err : (A : Type 0) {B : Type 0} (o : Option CallError) (e : CallError) (r : Result B CallError) → IsErrAnd r (λ x. x ≡ e) → RefusedBy {R = A} o (Err e) → RefusedBy o r
+refused-err A o e (Ok b) made is = absurd made
+refused-err A (Some f) e (Err x) made is = cc
+refused-err A None e (Err x) made is = made ∙ is
 
 -- Where the tests let a call pass, it may answer anything.
-pub answers-ok : {A B : Type 0} (o : Option CallError) (a : A) (b : B) → Answers o (Ok a) → Answers o (Ok b)
-answers-ok (Some f) a b is = absurd cc
-answers-ok None a b is = is
+pub refused-ok : {A B : Type 0} (o : Option CallError) (a : A) (b : B) → RefusedBy o (Ok a) → RefusedBy o (Ok b)
+refused-ok (Some f) a b is = absurd cc
+refused-ok None a b is = is
 
 -- There it may also say that memory was refused.
-pub answers-no-room : {A : Type 0} (B : Type 0) (o : Option CallError) (a : A) → Answers o (Ok a) → Answers {R = B} o (Err fault.NoRoom)
-answers-no-room B (Some f) a is = absurd cc
-answers-no-room B None a is = refl
+pub refused-no-room : {A : Type 0} (B : Type 0) (o : Option CallError) (a : A) → RefusedBy o (Ok a) → RefusedBy {R = B} o (Err fault.NoRoom)
+refused-no-room B (Some f) a is = absurd cc
+refused-no-room B None a is = refl

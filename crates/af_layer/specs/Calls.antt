@@ -20,9 +20,9 @@ refusal b k = if is_seat b.seats k
     then (if nat_le MAX_LOG (length b.log) then Some fault.LogFull else None) else Some fault.NoSeat
 
 -- A refusal is what is answered; where there is none, only memory may be refused.
-abbrev pub Answers : {R : Type 0} → Option CallError → Result R CallError → Type 0
-Answers (Some e) r = r ≡ Err e
-Answers None r = IfErr r (λ e. e ≡ fault.NoRoom)
+abbrev pub RefusedBy : {R : Type 0} → Option CallError → Result R CallError → Type 0
+RefusedBy (Some e) r = r ≡ Err e
+RefusedBy None r = IfErr r (λ e. e ≡ fault.NoRoom)
 
 -- A call: the machine does one step, and the book appends the entry of this seat with the event and
 -- its reply.
