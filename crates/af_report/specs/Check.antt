@@ -9,15 +9,15 @@ use Rattle.af_plain.specs.Marking.{IsListOf}
 
 -- How many files are live, and how many of them are garbage.
 abbrev pub check_text : ℕ → ℕ → List ℕ
-check_text live lost = codes "check ok live "
-    ++ (decimal live ++ (codes " garbage " ++ (decimal lost ++ 10 ∷ [])))
+check_text live garbage = codes "check ok live "
+    ++ (decimal live ++ (codes " garbage " ++ (decimal garbage ++ 10 ∷ [])))
 
 -- The number of live files, and the length of a list that has each garbage file once.
 abbrev pub IsChecked : World → ℕ → ℕ → Type 0
 IsChecked w live garbage = (live ≡ map.len w.files)
-    × ((lost : List ℕ) × IsListOf (Garbage w) lost × (garbage ≡ length lost))
+    × ((files : List ℕ) × IsListOf (Garbage w) files × (garbage ≡ length files))
 
 -- The text of a check: the live files are counted, and a list that has each garbage file once.
 abbrev pub IsCheckText : World → List ℕ → Type 0
-IsCheckText w text = (lost : List ℕ) × IsListOf (Garbage w) lost
-    × (text ≡ check_text (map.len w.files) (length lost))
+IsCheckText w text = (files : List ℕ) × IsListOf (Garbage w) files
+    × (text ≡ check_text (map.len w.files) (length files))

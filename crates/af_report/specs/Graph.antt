@@ -62,10 +62,10 @@ colour false = []
 
 -- A file: its number, what it is, its two counts, and its name.
 abbrev pub node_text : World → Bool → ℕ → File → List ℕ
-node_text w lost f x =
+node_text w is_garbage f x =
     codes "f" ++ (decimal f ++ (codes " [label=\"" ++ (decimal f ++ codes " ")))
     ++ (kind_text x ++ (counts_text (refs w f) (inflight w f)
-    ++ (name_text (name_of x) ++ (codes "\"" ++ (colour lost ++ codes "]\n")))))
+    ++ (name_text (name_of x) ++ (codes "\"" ++ (colour is_garbage ++ codes "]\n")))))
 
 -- An edge to the peer of a connected socket.
 abbrev pub peer_text : ℕ → State → List ℕ
@@ -81,7 +81,7 @@ peer_of f (AsSocket s) = peer_text f s.state
 
 -- A file, and an edge to its peer.
 abbrev pub file_text : World → Bool → ℕ → File → List ℕ
-file_text w lost f x = node_text w lost f x ++ peer_of f x
+file_text w is_garbage f x = node_text w is_garbage f x ++ peer_of f x
 
 -- ---- what waits at files
 
@@ -108,19 +108,19 @@ contents_text f x = flat_map (message_text f) (queue_of x) ++ flat_map (embryo_t
 abbrev pub is_in : List ℕ → ℕ → Bool
 is_in xs f = list_any (nat_eq f) xs
 
--- All files, with the lost ones in their colour.
+-- All files, with the garbage in its colour.
 abbrev pub files_text : World → List ℕ → List ℕ
-files_text w lost = flat_map (λ e. file_text w (is_in lost e.0) e.0 e.1) (map.entries w.files)
+files_text w garbage = flat_map (λ e. file_text w (is_in garbage e.0) e.0 e.1) (map.entries w.files)
 
 -- All processes, all files, and all that waits at them, each by rising number.
 abbrev pub graph_text : World → List ℕ → List ℕ
-graph_text w lost =
+graph_text w garbage =
     codes "digraph world {\nrankdir=LR\n"
     ++ (flat_map (λ e. process_text e.0 e.1) (map.entries w.processes)
-    ++ (files_text w lost
+    ++ (files_text w garbage
     ++ (flat_map (λ e. contents_text e.0 e.1) (map.entries w.files)
     ++ codes "}\n")))
 
 -- The text is the graph of the world, in which just the garbage has its colour.
 abbrev pub IsGraph : World → List ℕ → Type 0
-IsGraph w text = (lost : List ℕ) × IsListOf (Garbage w) lost × (text ≡ graph_text w lost)
+IsGraph w text = (garbage : List ℕ) × IsListOf (Garbage w) garbage × (text ≡ graph_text w garbage)

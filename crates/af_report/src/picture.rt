@@ -28,27 +28,28 @@ pub fn graph(alloc: Global, engine: &Engine) -> Result<Vec<u8>, AllocError>
     ensures { IfOk result (λ text. IsGraph engine.now.world text.items) }
 {
     let listing = engine.listing()?;
-    let lost = garbage(alloc, &listing)?;
+    let garbage = garbage(alloc, &listing)?;
     let mut text = String::new(alloc);
-    push_world(&mut text, engine, &listing, lost.as_slice())?;
+    push_world(&mut text, engine, &listing, garbage.as_slice())?;
     Ok(text.into_bytes())
 }
 
-/// Appends the picture of the engine's world, whose listing this is. The lost files, in rising
-/// order, have the colour of garbage.
+/// Appends the picture of the engine's world, whose listing this is. The garbage, in rising
+/// order, has a colour of its own.
 fn push_world(
     text: &mut String,
     engine: &Engine,
     listing: &Listing,
-    lost: &[Ino],
+    garbage: &[Ino],
 ) -> Result<(), AllocError>
     requires listed { listing.now ≡ bare engine.now.world }
-    requires rises { IsStrictlyIncreasing lost.now }
-    ensures { OnOk result (AppendsText text.old text.new (graph_text engine.now.world lost.now)) }
+    requires rises { IsStrictlyIncreasing garbage.now }
+    ensures { OnOk result
+        (AppendsText text.old text.new (graph_text engine.now.world garbage.now)) }
 {
     text.push_str("digraph world {\nrankdir=LR\n")?;
     push_processes(text, listing.tables())?;
-    push_files(text, engine, lost)?;
+    push_files(text, engine, garbage)?;
     push_all_waiting(text, listing.files())?;
     text.push_str("}\n")?;
     Ok(())

@@ -111,10 +111,10 @@ pub fn count(alloc: Global, engine: &Engine) -> Result<Option<Checked>, AllocErr
     let Some(agreed) = Agreed::of(&listing, &kept) else {
         return Ok(None);
     };
-    let lost = garbage(alloc, &listing)?;
+    let garbage = garbage(alloc, &listing)?;
     Ok(Some(Checked {
         agreed,
-        garbage: lost.len(),
+        garbage: garbage.len(),
     }))
 }
 
@@ -123,9 +123,9 @@ fn check_line(alloc: Global, checked: &Checked) -> Result<String, AllocError>
     ensures { IfOk result (λ line. string_bytes line ≡ check_text checked.now.0 checked.now.1) }
 {
     let files = checked.live();
-    let lost = checked.garbage();
+    let garbage = checked.garbage();
     let mut line = String::new(alloc);
-    writeln!(line, "check ok live {files} garbage {lost}")?;
+    writeln!(line, "check ok live {files} garbage {garbage}")?;
     Ok(line)
 }
 

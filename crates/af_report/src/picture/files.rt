@@ -38,10 +38,10 @@ fn push_counts(text: &mut String, refs: u64, inflight: u64) -> Result<(), AllocE
 }
 
 /// Appends the colour of garbage, where the file is garbage.
-fn push_colour(text: &mut String, lost: bool) -> Result<(), AllocError>
-    ensures { OnOk result (AppendsText text.old text.new (colour lost)) }
+fn push_colour(text: &mut String, is_garbage: bool) -> Result<(), AllocError>
+    ensures { OnOk result (AppendsText text.old text.new (colour is_garbage)) }
 {
-    if !lost {
+    if !is_garbage {
         return Ok(());
     }
     text.push_str(", style=filled, fillcolor=pink")
@@ -74,11 +74,12 @@ fn push_node(
     text: &mut String,
     engine: &Engine,
     file: &FileRef,
-    lost: bool,
+    is_garbage: bool,
 ) -> Result<(), AllocError>
     requires { IsLive engine.now.world file.now }
     ensures { (x : File) → map.get engine.now.world.files file.now ≡ Some x
-        → OnOk result (AppendsText text.old text.new (node_text engine.now.world lost file.now x)) }
+        → OnOk result
+        (AppendsText text.old text.new (node_text engine.now.world is_garbage file.now x)) }
 {
     let ino = file.ino();
     write!(text, "f{ino} [label=\"{ino} ")?;
@@ -86,7 +87,7 @@ fn push_node(
     push_counts(text, engine.refs_at(file), engine.inflight_at(file))?;
     push_name(text, engine.name_at(file))?;
     text.push_str("\"")?;
-    push_colour(text, lost)?;
+    push_colour(text, is_garbage)?;
     text.push_str("]\n")?;
     Ok(())
 }
@@ -99,18 +100,19 @@ fn is_in(inos: &[Ino], ino: Ino) -> bool
     inos.binary_search(&ino).is_ok()
 }
 
-/// Appends all live files and edges to their peers, by rising number. The lost ones, garbage in a
-/// list that rises, have the colour of garbage.
-pub fn push_files(text: &mut String, engine: &Engine, lost: &[Ino]) -> Result<(), AllocError>
-    requires { IsStrictlyIncreasing lost.now }
-    ensures { OnOk result (AppendsText text.old text.new (files_text engine.now.world lost.now)) }
+/// Appends all live files and edges to their peers, by rising number. The garbage, in a list that
+/// rises, has a colour of its own.
+pub fn push_files(text: &mut String, engine: &Engine, garbage: &[Ino]) -> Result<(), AllocError>
+    requires { IsStrictlyIncreasing garbage.now }
+    ensures { OnOk result
+        (AppendsText text.old text.new (files_text engine.now.world garbage.now)) }
 {
     // No file has the number 0: that is what a sound world says of it.
     engine.lemma_is_sound();
     let mut last = Ino(0);
     let mut order_hint = 0;
     while let Some((file, at)) = engine.next_file(last, order_hint) {
-        push_node(text, engine, &file, is_in(lost, file.ino()))?;
+        push_node(text, engine, &file, is_in(garbage, file.ino()))?;
         push_peer(text, engine, &file)?;
         last = file.ino();
         order_hint = at;

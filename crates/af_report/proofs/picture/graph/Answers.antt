@@ -8,10 +8,10 @@ use Rattle.af_report.proofs.picture.graph.Goals as goal
 pub returns : goal.returns
 returns c =
     let w = c.args.engine.now.world in
-    let lost = c.in_ok-lost.lost.items in
-    let drawn : string_bytes c.push_world.new.text ≡ graph_text w lost = search rules in
+    let garbage = c.in_ok-garbage.garbage.items in
+    let drawn : string_bytes c.push_world.new.text ≡ graph_text w garbage = search rules in
     let bytes : c.into_bytes.result.items ≡ string_bytes c.push_world.new.text = search rules in (
-      lost,
-      garbage-listed w lost (subst (λ v. IsListOf (Garbage v) lost) c.in_ok-listing.ensures c.in_ok-lost.ensures),
+      garbage,
+      garbage-listed w garbage (subst (λ v. IsListOf (Garbage v) garbage) c.in_ok-listing.ensures c.in_ok-garbage.ensures),
       bytes ∙ drawn,
     )

@@ -14,7 +14,7 @@ returns c =
     let seen = c.args.listing.now in
     let head : List ℕ = codes "digraph world {\nrankdir=LR\n" in
     let processes = flat_map (λ e. process_text e.0 e.1) (map.entries w.processes) in
-    let files = files_text w c.args.lost.now in
+    let files = files_text w c.args.garbage.now in
     let waiting = flat_map (λ e. contents_text e.0 e.1) (map.entries w.files) in
     let end : List ℕ = codes "}\n" in
     let old = string_bytes c.args.text.now in

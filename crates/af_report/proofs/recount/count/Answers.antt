@@ -22,10 +22,10 @@ returns-in_default-clause-agree c =
 pub returns-clause-counts : goal.returns-clause-counts
 returns-clause-counts c =
     let w = c.args.engine.now.world in
-    let lost = c.in_ok-lost.lost.items in
+    let garbage = c.in_ok-garbage.garbage.items in
     let shows : c.in_ok-listing.listing ≡ bare w = search rules in
-    let found : IsListOf (Garbage c.in_ok-listing.listing) lost = search rules in
+    let found : IsListOf (Garbage c.in_ok-listing.listing) garbage = search rules in
     let kept : c.in-Some.agreed ≡ length c.in_ok-kept.kept.files.items = c.in-Some.ensures.files in
     let whole : length c.in_ok-kept.kept.files.items ≡ length (map.keys w.files) = sym (length-map c.in_ok-kept.kept.files.items (λ k. k.ino)) ∙ ap length c.in_ok-kept.ensures.files in
     let all : c.in-Some.agreed ≡ map.len w.files = kept ∙ whole ∙ length-map (map.entries w.files) (λ e. e.0) ∙ sym (map.len-entries w.files) in
-    (all, (lost, garbage-listed w lost (subst (λ v. IsListOf (Garbage v) lost) shows found), search rules))
+    (all, (garbage, garbage-listed w garbage (subst (λ v. IsListOf (Garbage v) garbage) shows found), search rules))

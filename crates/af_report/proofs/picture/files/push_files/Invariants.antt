@@ -7,7 +7,7 @@ use Rattle.af_report.specs.Graph.{file_text, files_text, is_in}
 use Rattle.af_report.proofs.picture.files.push_files.Given as goal
 
 abbrev pub invariant-loop-file : goal.invariant-loop-file
-invariant-loop-file l = string_bytes l.text ++ flat_map (λ e. file_text l.engine.world (is_in l.lost e.0) e.0 e.1) (above l.last (map.entries l.engine.world.files)) ≡ string_bytes l.fn.text ++ files_text l.engine.world l.lost
+invariant-loop-file l = string_bytes l.text ++ flat_map (λ e. file_text l.engine.world (is_in l.garbage e.0) e.0 e.1) (above l.last (map.entries l.engine.world.files)) ≡ string_bytes l.fn.text ++ files_text l.engine.world l.garbage
 
 abbrev pub decreases-loop-file : goal.decreases-loop-file
 decreases-loop-file l = length (above l.last (map.entries l.engine.world.files))
