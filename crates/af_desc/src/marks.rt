@@ -222,13 +222,13 @@ fn clear_all_marks(rows: &mut TrackedTable)
     ensures rest { rows.new ≡ record rows.old { marks = rows.new.marks } }
 {
     let mut last = Ino(0);
-    let mut near = 0;
-    while let Some((file, at)) = rows.table.next_after(last, near) {
+    let mut order_hint = 0;
+    while let Some((file, at)) = rows.table.next_after(last, order_hint) {
         // Each file has a mark.
         rows.table.lemma_are_one();
         rows.set_mark(&file, Mark::none());
         last = file.ino();
-        near = at;
+        order_hint = at;
     }
     // No other number has a mark.
     rows.table.lemma_are_one();

@@ -228,7 +228,7 @@ impl TrackedTable {
     {
         // Mostly nobody asks for a list, and one test tells.
         if self.is_asked {
-            tell_released(
+            list_released(
                 self.tells_released,
                 &self.table,
                 &mut self.released,
@@ -613,7 +613,7 @@ fn add_dirty(asked: bool, table: &mut FileTable, changed: &mut Vec<FileRef>, fil
 /// an unknown file. There is room then for fewer live files. Takes no memory.
 #[cold]
 #[inline(never)]
-fn tell_released(
+fn list_released(
     asked: bool,
     table: &FileTable,
     released: &mut Vec<Ino>,
@@ -654,7 +654,7 @@ fn tell_released(
 fn remove_listed(table: &mut FileTable, changed: &mut Vec<FileRef>, file: &FileRef)
     requires listed { IsDirtyList table.old.dirty changed.old.items }
     ensures listed { IsDirtyList (map.remove table.old.dirty file.now) changed.new.items }
-    ensures silent { changed.old.items ≡ [] → changed.new.items ≡ [] }
+    ensures stays_empty { changed.old.items ≡ [] → changed.new.items ≡ [] }
     ensures table { table.new ≡ table.old }
     ensures capacity { vec_capacity changed.new ≡ vec_capacity changed.old }
 {

@@ -19,13 +19,13 @@ invariant_of-self c =
     let new = c.remove.new.self in
     elim c.if-self.branch [
       | then-self w ↦
-          let r = w.tell_released.ensures in
+          let r = w.list_released.ensures in
           let l = w.remove_listed.ensures in
           let at = ap (λ j. j.table) w.self-inside-is in
           let is = c.remove.ensures.removed ∙ ap (without_entry k new.room) (at ∙ l.table) in
           subst (λ j. contract.the_invariant (record j { table = new })) (sym w.self-inside-is) (
             record {
-              dirty = dirty-gone a.table new a.changed.items (vec_capacity a.changed) _ h.dirty k _ _ is l.listed (λ off. l.silent (h.dirty.silent off)) (omega (arith, l.capacity));
+              dirty = dirty-gone a.table new a.changed.items (vec_capacity a.changed) _ h.dirty k _ _ is l.listed (λ off. l.stays_empty (h.dirty.silent off)) (omega (arith, l.capacity));
               accounted = accounted-gone a.table new a.released.items (vec_capacity a.released) _ h.accounted k _ _ is r.goes r.len (omega (arith, r.capacity));
               roomy = record { changed = λ asked. let enough = h.roomy.changed asked in omega (arith, enough, r.less, l.capacity); released = r.space };
             },

@@ -3,7 +3,7 @@ use Rattle.std.proofs.Math.Nat.{le-min}
 use Rattle.std.specs.FinMap as map
 use Rattle.ordered_slab.proofs.Values.{gone_few}
 use Rattle.af_desc.proofs.ToldLists.{absent-len, freed-absent, freed-len, freed-listed, lived}
-use Rattle.af_desc.proofs.tracked_table.tell_released.Goals as goal
+use Rattle.af_desc.proofs.tracked_table.list_released.Goals as goal
 
 pub push_reserved-requires : goal.push_reserved-requires
 push_reserved-requires c =
