@@ -67,7 +67,7 @@ impl Bits {
         let mut i = from / u64::BITS;
         let mut low = from % u64::BITS;
         while u64::BITS * i < end {
-            if let Some(bit) = place_from(self.words[i as usize], low, taken) {
+            if let Some(bit) = bit_from(self.words[i as usize], low, taken) {
                 let n = u64::BITS * i + bit;
                 return if n < end { Some(n) } else { None };
             }
@@ -88,7 +88,7 @@ impl Bits {
         ensures none { IfNone result ((q : ℕ) → q < end → is_taken self.now.words q ≡ true) }
     {
         for i in 0..WORDS {
-            if let Some(bit) = place_from(self.words[i], 0, false) {
+            if let Some(bit) = bit_from(self.words[i], 0, false) {
                 let n = u64::BITS * i as u32 + bit;
                 return if n < end { Some(n) } else { None };
             }
@@ -116,21 +116,21 @@ impl Bits {
 /// Returns the least position in a word from this one on whose bit is as wanted.
 #[inline(always)]
 #[tactic(auto, using(crate::proofs::Words::places))]
-fn place_from(word: u64, from: u32, set: bool) -> Option<u32>
+fn bit_from(word: u64, from: u32, set: bool) -> Option<u32>
     requires { from < 64 }
     ensures place { IfSome result (λ n. IsPlace word from set n) }
     ensures none { IfNone result (HasNoPlace word from set) }
 {
     if set {
-        return set_place_from(word, from);
+        return set_bit_from(word, from);
     }
-    set_place_from(!word, from)
+    set_bit_from(!word, from)
 }
 
 /// Returns the least position in a word from this one on whose bit is set.
 #[inline(always)]
 #[tactic(auto, using(crate::proofs::Words::places))]
-fn set_place_from(word: u64, from: u32) -> Option<u32>
+fn set_bit_from(word: u64, from: u32) -> Option<u32>
     requires { from < 64 }
     ensures place { IfSome result (λ n. IsPlace word from true n) }
     ensures none { IfNone result (HasNoPlace word from true) }

@@ -15,19 +15,21 @@ const HINTS: usize = 256;
 /// costs time, and no clause speaks of one.
 #[derive(Drop)]
 pub struct Hints {
-    places: [usize; HINTS],
+    indices: [usize; HINTS],
 }
 
 impl Hints {
     /// Makes hints that all name the first index.
     pub fn new() -> Hints {
-        Hints { places: [0; HINTS] }
+        Hints {
+            indices: [0; HINTS],
+        }
     }
 
     /// Sets the hint for this pid to this index.
     #[inline(always)]
     pub fn set(&mut self, pid: Pid, index: usize) {
-        self.places[pid.0 as usize % HINTS] = index;
+        self.indices[pid.0 as usize % HINTS] = index;
     }
 
     /// Returns the process of this pid, if it is known. Asks the map only if another process is at
@@ -36,7 +38,7 @@ impl Hints {
     pub fn get<'a>(&self, processes: &'a IndexMap<Pid, Process>, pid: Pid) -> Option<&'a Process>
         ensures { option_copied result ≡ get nat_eq processes.now pid }
     {
-        match processes.get_index(self.places[pid.0 as usize % HINTS]) {
+        match processes.get_index(self.indices[pid.0 as usize % HINTS]) {
             Some((there, process)) if *there == pid => Some(process),
             // The answer of a search is taken apart here, so that a right hint needs no test of it.
             _ => Some(search(processes, pid)?),
@@ -50,7 +52,7 @@ impl Hints {
         ensures there { IfSome result (λ i. slice_get (keys processes.now) i ≡ Some pid) }
         ensures none { IfNone result (get nat_eq processes.now pid ≡ None) }
     {
-        let hint = self.places[pid.0 as usize % HINTS];
+        let hint = self.indices[pid.0 as usize % HINTS];
         match processes.get_index(hint) {
             Some((there, _)) if *there == pid => Some(hint),
             _ => {
