@@ -1,7 +1,7 @@
 -- Which words fit, and how many bytes or descriptors they mean.
 use Rattle.std.proofs.Common.{◌≡◌, ℕ, ◌+◌, ◌<◌, ◌≤◌, ◌&&◌, List, [], ◌∷◌, length, Bool, true, false, cond, not, Option, Some, None, is_none, is_some, position, refl, sym, ap, length-append, arith}
 use Rattle.std.proofs.lemmas.Grind.{common_steps}
-use Rattle.scm_run.specs.Lines.Words.{all_printable, is_printable}
+use Rattle.scm_run.specs.Lines.Words.{all_printable, is_printable, unprintable_at}
 use Rattle.scm_run.specs.Lines.Numbers.{all_digits, is_digit}
 use Rattle.scm_run.specs.Lines.Payload.{at_most, byte_before, unescape}
 use Rattle.scm_run.specs.Lines.Fitting.{digits_reason, number_reason}
@@ -22,7 +22,7 @@ found_where_not test all none more (b ∷ bytes) = rw (more b bytes) (by (test b
     by false e before = rw e (grind (arith, common_steps))
 
 -- A byte is found that is not printable exactly where not all are.
-pub unprintable_found : (bytes : List ℕ) → is_some (position (λ b. not (is_printable b)) bytes) ≡ not (all_printable bytes)
+pub unprintable_found : (bytes : List ℕ) → is_some (unprintable_at bytes) ≡ not (all_printable bytes)
 unprintable_found = found_where_not is_printable all_printable refl (λ b bytes. refl)
 
 -- A byte is found that is no digit exactly where not all are.

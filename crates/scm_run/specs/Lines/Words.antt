@@ -1,5 +1,5 @@
 -- Words, which spaces and tabs part. This project's profile.
-use Rattle.std.specs.Prelude.{◌≡◌, ℕ, ◌==◌, ◌&&◌, ◌||◌, nat_le, List, [], ◌∷◌, Bool, true, false, if◌then◌else◌, Option, Some, None}
+use Rattle.std.specs.Prelude.{◌≡◌, ℕ, ◌==◌, ◌&&◌, ◌||◌, nat_le, List, [], ◌∷◌, Bool, true, false, if◌then◌else◌, Option, Some, None, not, position}
 use Rattle.std.specs.Option.{option_map}
 
 -- A space or a tab.
@@ -72,6 +72,10 @@ is_printable b = (nat_le 32 b && nat_le b 126) || (b == 9)
 abbrev pub all_printable : List ℕ → Bool
 all_printable [] = true
 all_printable (b ∷ bytes) = is_printable b && all_printable bytes
+
+-- The position of the first byte that is not printable, if there is one.
+abbrev pub unprintable_at : List ℕ → Option ℕ
+unprintable_at = position (λ b. not (is_printable b))
 
 -- The first word begins with #.
 abbrev pub is_comment : List ℕ → Bool

@@ -1,12 +1,12 @@
 //! The search for the first word that does not fit in a line that cannot be read.
-ghost use Rattle.std.specs.Prelude.{◌≡◌, ◌≤◌, ◌<◌, ◌+◌, ◌^◌, IfSome, false, length, not, is_none};
-ghost use Rattle.std.specs.Prelude.{is_some};
+ghost use Rattle.std.specs.Prelude.{◌≡◌, ◌≤◌, ◌<◌, ◌+◌, ◌-◌, ◌^◌, IfSome, Some, false, length, not};
+ghost use Rattle.std.specs.Prelude.{is_none, is_some};
 ghost use Rattle.scm_run.specs.Lines.Fitting.{fits_last, fits_word, fits_words, form_in};
 ghost use Rattle.scm_run.specs.Lines.Fitting.{has_keyword, has_verb, step_in};
 ghost use Rattle.scm_run.specs.Lines.Forms.{line_row, read_form, step_row};
 ghost use Rattle.scm_run.specs.Lines.Keywords.{privilege_of};
 ghost use Rattle.scm_run.specs.Lines.Versions.{read_in};
-ghost use Rattle.scm_run.specs.Lines.Words.{all_printable, no_words, words_of};
+ghost use Rattle.scm_run.specs.Lines.Words.{all_printable, no_words, unprintable_at, words_of};
 ghost use Rattle.scm_run.specs.declared.lines.line.TheConstants.{MAX_LINE};
 ghost use Rattle.scm_run.specs.declared.lines.reason.Reason.TheVariants as reason;
 
@@ -209,12 +209,14 @@ fn why_form(version: Version, word: &[u8], rest: &[u8]) -> Option<Misfit>
 }
 
 /// Returns why the words of a line do not fit; `None` if they do.
-#[tactic(auto, using(crate::proofs::lines::LinesFit::silent, crate::proofs::lines::LinesFit::comment, crate::proofs::lines::LinesFit::not_printable, crate::proofs::lines::LinesFit::by_form))]
+#[tactic(auto, using(crate::proofs::lines::LinesFit::silent, crate::proofs::lines::LinesFit::comment, crate::proofs::lines::LinesFit::by_form))]
 fn why_line(version: Version, bytes: &[u8]) -> Option<Misfit>
     requires { length bytes.now ≤ MAX_LINE }
     ensures exact { is_some result ≡ is_none (read_in version bytes.now) }
     ensures not_printable { IfSome result (λ m.
         all_printable bytes.now ≡ false → m.reason ≡ reason.NotPrintable) }
+    ensures at { IfSome result (λ m. all_printable bytes.now ≡ false
+        → unprintable_at bytes.now ≡ Some (length bytes.now - m.left)) }
     ensures within { IfSome result (λ m. m.left ≤ length bytes.now) }
 {
     let (word, rest) = first_word(bytes)?;
@@ -240,6 +242,9 @@ pub fn why(version: Version, bytes: &[u8]) -> Option<Unreadable>
         MAX_LINE < length bytes.now → u.reason ≡ reason.LineTooLong) }
     ensures not_printable { IfSome result (λ u. length bytes.now ≤ MAX_LINE
         → all_printable bytes.now ≡ false → u.reason ≡ reason.NotPrintable) }
+    ensures end { IfSome result (λ u. MAX_LINE < length bytes.now → u.column ≡ MAX_LINE + 1) }
+    ensures at { IfSome result (λ u. length bytes.now ≤ MAX_LINE
+        → all_printable bytes.now ≡ false → unprintable_at bytes.now ≡ Some (u.column - 1)) }
 {
     if bytes.len() > MAX_LINE {
         return Some(Unreadable {

@@ -1,13 +1,13 @@
 //! The reasons why words cannot be read.
-ghost use Rattle.std.specs.Prelude.{◌≡◌, ◌≤◌, ◌<◌, ◌+◌, ◌^◌, ◌∷◌, IfSome, length, not, position};
-ghost use Rattle.std.specs.Prelude.{is_none, is_some};
+ghost use Rattle.std.specs.Prelude.{◌≡◌, ◌≤◌, ◌<◌, ◌+◌, ◌-◌, ◌^◌, ◌∷◌, IfSome, length, not};
+ghost use Rattle.std.specs.Prelude.{Some, is_none, is_some, position};
 ghost use Rattle.scm_run.specs.Lines.Attached.{attached_of};
 ghost use Rattle.scm_run.specs.Lines.Fitting.{digits_reason, number_reason};
 ghost use Rattle.scm_run.specs.Lines.Keywords.{type_of};
 ghost use Rattle.scm_run.specs.Lines.Numbers.{is_digit, number_of};
 ghost use Rattle.scm_run.specs.Lines.Payload.{at_most, payload_of, unescape};
 ghost use Rattle.scm_run.specs.declared.lines.reason.Reason.TheVariants as reason;
-ghost use Rattle.scm_run.specs.Lines.Words.{all_printable, is_printable, words_of};
+ghost use Rattle.scm_run.specs.Lines.Words.{all_printable, unprintable_at, words_of};
 
 use crate::lines::attached::{MAX_ATTACHED, item, star_at};
 use crate::lines::keywords::type_named;
@@ -52,7 +52,7 @@ impl Misfit {
 
 /// Returns the position of the first byte that is not printable.
 fn unprintable_at(bytes: &[u8]) -> Option<usize>
-    ensures value { result ≡ position (λ b. not (is_printable b)) bytes.now }
+    ensures value { result ≡ unprintable_at bytes.now }
     ensures within { IfSome result (λ i. i < length bytes.now) }
 {
     bytes.iter().position(|b| !is_printable(*b))
@@ -62,6 +62,7 @@ fn unprintable_at(bytes: &[u8]) -> Option<usize>
 pub fn first_unprintable(bytes: &[u8]) -> Option<Misfit>
     ensures reason { IfSome result (λ m. m.reason ≡ reason.NotPrintable) }
     ensures exact { is_some result ≡ not (all_printable bytes.now) }
+    ensures at { IfSome result (λ m. unprintable_at bytes.now ≡ Some (length bytes.now - m.left)) }
     ensures within { IfSome result (λ m. m.left ≤ length bytes.now) }
 {
     let at = unprintable_at(bytes)?;
