@@ -1,5 +1,5 @@
 -- A receive where nothing is left and the peer is gone.
-use Rattle.std.proofs.Common.{◌≡◌, false, arith, ℕ, List, [], ◌∷◌, length, take, refl, sym, ap, ◌∙◌, nat_eq}
+use Rattle.std.proofs.Common.{◌≡◌, false, arith, ℕ, List, [], ◌∷◌, length, take, refl, sym, ap, ◌∙◌, nat_eq, subst}
 use Rattle.std.specs.Prelude.{None, min, nat_lt, if◌then◌else◌}
 use Rattle.std.specs.List.{zip}
 use Rattle.std.proofs.lemmas.List.{nil_from_length}
@@ -15,11 +15,14 @@ use Rattle.af_base.specs.Table.{lowest_free}
 use Rattle.af_base.specs.Take.{cut, nothing_taken, take_from}
 use Rattle.af_base.specs.Whole.{IsSound}
 use Rattle.af_base.specs.World.{Process, Socket, World}
+use Rattle.af_base.specs.Unheld.{Settles}
+use Rattle.af_base.proofs.SettledWorlds.{settles_none}
 use Rattle.af_base.proofs.SoundSteps.{same-with_queue}
+use Rattle.af_collect.specs.StoreView.{StoreView}
 use Rattle.af_steps.specs.Outcome.{Does}
 use Rattle.af_steps.specs.Found.{HasEnd, HasSocket}
 use Rattle.af_steps.proofs.LookupRows.{after-socket, file-is, ino-is, socket-is}
-use Rattle.af_steps.proofs.Outcomes.{does-nothing}
+use Rattle.af_steps.proofs.Outcomes.{does}
 
 -- A list beside an empty one makes no pair.
 pub no-pairs : {A B : Type 0} (xs : List A) → zip {X = B} xs [] ≡ []
@@ -67,11 +70,15 @@ module _ {w : World} {p n f : ℕ} {q : Process} {x : Socket} (has : HasSocket w
   has-end = record { fits = fits; answered = answered_end; received = ended; peeked = unseen }
 
 -- An engine that shows `old`, and has this inside.
-module _ {inside old : Machine} (shown : inside ≡ old) {p n bytes fds : ℕ} (has : HasEnd inside.world p n bytes fds) (sound : IsSound inside.world) where
+module _ {inside old : Machine} (shown : inside ≡ old) {p n bytes fds : ℕ} (has : HasEnd inside.world p n bytes fds) (sound : IsSound inside.world) (new : StoreView) (world : new.world ≡ inside.world) (pass : new.pass ≡ inside.pass) (since : new.since ≡ inside.since) where
+  -- Its world stays settled.
+  stays : Settles inside.world new.world
+  stays = subst (Settles inside.world) (sym world) (settles_none inside.world sound.settled)
+
   -- A receive was done.
-  pub recv-end : Does old p (step.Recv n bytes fds) reply.End old
-  recv-end = does-nothing shown p (step.Recv n bytes fds) reply.End has.fits has.answered has.received sound
+  pub recv-end : Does old p (step.Recv n bytes fds) reply.End (record { world = new.world; pass = new.pass; last_pass = inside.last_pass; since = new.since })
+  recv-end = does shown p (step.Recv n bytes fds) new reply.End inside.world has.fits has.answered has.received stays pass since
 
   -- A peek was done.
-  pub peek-end : Does old p (step.Peek n bytes fds) reply.End old
-  peek-end = does-nothing shown p (step.Peek n bytes fds) reply.End has.fits has.answered has.peeked sound
+  pub peek-end : Does old p (step.Peek n bytes fds) reply.End (record { world = new.world; pass = new.pass; last_pass = inside.last_pass; since = new.since })
+  peek-end = does shown p (step.Peek n bytes fds) new reply.End inside.world has.fits has.answered has.peeked stays pass since

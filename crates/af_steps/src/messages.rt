@@ -8,6 +8,7 @@ ghost use Rattle.af_base.specs.Refusals.{first_fit, on_parts, on_peer, on_receiv
 ghost use Rattle.af_base.specs.Refusals.{process_at, refusal};
 ghost use Rattle.af_base.specs.Steps.{effect};
 ghost use Rattle.af_base.specs.Unheld.{Settles};
+ghost use Rattle.af_collect.specs.Receiving.{CanReceive};
 ghost use Rattle.af_collect.specs.StoreView.{room_at};
 ghost use Rattle.af_steps.specs.Found.{HasEnd, HasMessage};
 ghost use Rattle.af_steps.specs.Outcome.{Does, Refuses, got_reply, step_error};
@@ -193,16 +194,13 @@ impl Engine {
     {
         let mut fds = Fds::new(self.alloc);
         let mut taken = Taken::nothing(self.alloc);
-        let Some(source) = prepare_receive(&self.store, pid, on, max_bytes, max_fds, &mut fds)?
+        let Some(file) = prepare_receive(&mut self.store, pid, on, max_bytes, max_fds, &mut fds)?
         else {
             return Ok(Received::End);
         };
-        let (max, numbers) = (max_bytes as usize, fds.as_slice());
-        // A file in a table is no garbage of a running pass.
-        self.store.lemma_is_spared();
-        make_room(&mut self.store, &source, pid, numbers.len())?;
+        let max = max_bytes as usize;
         self.store
-            .take_msg(&source.file, max, pid, numbers, &mut taken)?;
+            .take_msg(&file, max, pid, fds.as_slice(), &mut taken)?;
         self.store.release();
         Ok(receive_answer(taken, fds))
     }
@@ -227,15 +225,12 @@ impl Engine {
             Refuses self.old pid (Step.Peek on max_bytes max_fds) e self.new) }
     {
         let mut fds = Fds::new(self.alloc);
-        let Some(source) = prepare_receive(&self.store, pid, on, max_bytes, max_fds, &mut fds)?
+        let Some(file) = prepare_receive(&mut self.store, pid, on, max_bytes, max_fds, &mut fds)?
         else {
             return Ok(Received::End);
         };
-        let (max, numbers) = (max_bytes as usize, fds.as_slice());
-        // A file in a table is no garbage of a running pass.
-        self.store.lemma_is_spared();
-        make_room(&mut self.store, &source, pid, numbers.len())?;
-        let seen = self.store.peek_msg(&source.file, max, pid, numbers)?;
+        let max = max_bytes as usize;
+        let seen = self.store.peek_msg(&file, max, pid, fds.as_slice())?;
         self.store.release();
         Ok(receive_answer(seen, fds))
     }
@@ -304,11 +299,48 @@ fn peer_of(socket: &Socket) -> Result<FileRef, Errno>
     }
 }
 
+/// Returns the socket that a receive or a peek takes from, fills an empty list with the free
+/// descriptors at which it installs files, and reserves room for these; `None` where nothing is
+/// left to receive, and the peer was freed. The refusals are those of `recv`. No process can see a
+/// change, also on an error.
+#[inline(always)]
+fn prepare_receive(
+    store: &mut Store,
+    pid: Pid,
+    on: Fd,
+    max_bytes: u32,
+    max_fds: u32,
+    fds: &mut Fds,
+) -> Result<Option<FileRef>, Errno>
+    requires { fds.old ≡ [] }
+    ensures world { store.new.world ≡ store.old.world }
+    ensures pass { store.new.pass ≡ store.old.pass }
+    ensures since { store.new.since ≡ store.old.since }
+    ensures fits { OnOk result
+        (refusal store.old.world pid (Step.Recv on max_bytes max_fds) ≡ None) }
+    ensures message { IfOk result (λ found. IfSome found (λ file.
+        HasMessage store.old.world pid on max_bytes max_fds file fds.new)) }
+    ensures can { IfOk result (λ found. IfSome found (λ file.
+        CanReceive store.new file max_bytes pid fds.new)) }
+    ensures ended { IfOk result (λ found. IfNone found
+        (HasEnd store.old.world pid on max_bytes max_fds)) }
+    ensures refused { IfErr result (λ e.
+        step_error store.old.world pid (Step.Recv on max_bytes max_fds) ≡ Some e) }
+{
+    let Some(source) = find_message(store, pid, on, max_bytes, max_fds, fds)? else {
+        return Ok(None);
+    };
+    // A file in a table is no garbage of a running pass.
+    store.lemma_is_spared();
+    make_room(store, &source, pid, fds)?;
+    Ok(Some(source.file))
+}
+
 /// Returns the socket that a receive or a peek takes from, and fills an empty list with the free
 /// descriptors at which it installs files; `None` where nothing is left to receive, and the peer
 /// was freed. The refusals are those of `recv`.
 #[inline(always)]
-fn prepare_receive(
+fn find_message(
     store: &Store,
     pid: Pid,
     on: Fd,
@@ -343,22 +375,22 @@ fn prepare_receive(
     }))
 }
 
-/// Reserves room to install this many descriptors of the process that receives, if there is none.
-/// No process can see a change, also on an error.
+/// Reserves room to install these descriptors of the process that receives, if there is none. No
+/// process can see a change, also on an error.
 #[inline(always)]
-fn make_room(store: &mut Store, source: &Source, pid: Pid, count: usize) -> Result<(), AllocError>
+fn make_room(store: &mut Store, source: &Source, pid: Pid, fds: &Fds) -> Result<(), AllocError>
     requires { source.now.has_room
         ≡ nat_le (process_at store.old.world pid).limit (room_at store.old pid) }
     ensures world { store.new.world ≡ store.old.world }
     ensures pass { store.new.pass ≡ store.old.pass }
     ensures since { store.new.since ≡ store.old.since }
     ensures row { OnOk result
-        (0 < count → (process_at store.old.world pid).limit ≤ room_at store.new pid) }
+        (0 < length fds.now → (process_at store.old.world pid).limit ≤ room_at store.new pid) }
 {
     if source.has_room {
         return Ok(());
     }
-    store.room_for(pid, count)
+    store.room_for(pid, fds.len())
 }
 
 /// Returns whether this many bytes can be received from the socket, or why not.

@@ -1,17 +1,10 @@
-use Rattle.std.proofs.Common.{rules, length, sym, ap, ◌∙◌}
-use Rattle.std.specs.Prelude.{nat_le}
-use Rattle.af_base.specs.Refusals.{process_at}
-use Rattle.af_base.specs.World.{Process}
-use Rattle.af_steps.proofs.EmptyReceives.{has-end}
-use Rattle.af_steps.proofs.LookupRows.{is_process}
+use Rattle.std.proofs.Common.{rules}
+use Rattle.af_steps.specs.Found.{HasMessage}
+use Rattle.af_steps.proofs.WaitingMessages.{can-receive}
 use Rattle.af_steps.proofs.messages.prepare_receive.Goals as goal
 
-pub returns-then-len-eq0-clause-ended : goal.returns-then-len-eq0-clause-ended
-returns-then-len-eq0-clause-ended c =
-    has-end c.in_ok-process.ensures.found c.args.max_bytes c.args.max_fds (search rules) (sym (c.len.ensures.value ∙ ap length c.queue.ensures) ∙ c.if-len-eq0.true)
-
-pub returns-clause-room : goal.returns-clause-room
-returns-clause-room c =
-    c.has_room.ensures
-    ∙ ap (λ (x : Process). nat_le x.limit c.in_ok-process.process.now.row) (sym (is_process c.in_ok-process.ensures.found.number.process))
-    ∙ sym (ap (nat_le (process_at c.args.store.now.world c.args.pid).limit) c.in_ok-process.ensures.row)
+pub returns-clause-can : goal.returns-clause-can
+returns-clause-can c =
+    let message : HasMessage c.args.store.now.world c.args.pid c.args.on c.args.max_bytes c.args.max_fds c.in-Some.source.file c.find_message.new.fds = search rules in
+    let room = c.in_ok-make_room.ensures in
+    can-receive c.args.store.now c.make_room.new.store message c.lemma_is_spared.ensures room.world room.pass (λ some. room.row some)

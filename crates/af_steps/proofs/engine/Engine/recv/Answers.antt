@@ -1,19 +1,30 @@
-use Rattle.std.proofs.Common.{rules, ap, arith, length}
+use Rattle.std.proofs.Common.{rules, sym, ap, ◌∙◌}
+use Rattle.af_base.specs.declared.events.Step.TheVariants as step
+use Rattle.af_collect.specs.StoreView.{StoreView}
 use Rattle.af_steps.specs.Found.{HasEnd, HasMessage}
+use Rattle.af_steps.specs.Outcome.{got_reply}
 use Rattle.af_steps.proofs.EmptyReceives.{recv-end}
-use Rattle.af_steps.proofs.WaitingMessages.{can-receive}
+use Rattle.af_steps.proofs.Outcomes.{does}
+use Rattle.af_steps.proofs.WaitingMessages.{got-is, recv-is}
 use Rattle.af_steps.proofs.engine.Engine.recv.Goals as goal
-
-pub take_msg-requires-clause-can : goal.take_msg-requires-clause-can
-take_msg-requires-clause-can c =
-    let message : HasMessage c.self.inside.store.world c.args.pid c.args.on c.args.max_bytes c.args.max_fds c.in-Some.source.file c.prepare_receive.new.fds = search rules in
-    let room = c.in_ok-make_room.ensures in
-    can-receive c.self.inside.store c.make_room.new.store message c.lemma_is_spared.ensures room.world room.pass (λ some. room.row (omega (arith, some, ap length c.as_slice-numbers.ensures))) c.as_slice-numbers.result.now c.as_slice-numbers.ensures
 
 pub returns-in_default-clause-done : goal.returns-in_default-clause-done
 returns-in_default-clause-done c =
+    let found = c.in_ok-file.ensures in
     let end : HasEnd c.self.inside.store.world c.args.pid c.args.on c.args.max_bytes c.args.max_fds = search rules in
-    recv-end c.self.view_is end c.self.invariant.0
+    recv-end c.self.view_is end c.self.invariant.0 c.prepare_receive.new.store found.world found.pass found.since
 
 pub returns-clause-done : goal.returns-clause-done
-returns-clause-done c = search rules
+returns-clause-done c =
+    let p = c.args.pid in
+    let bytes = c.args.max_bytes in
+    let f = c.in-Some.file in
+    let found = c.in_ok-file.ensures in
+    let took = c.in_ok-take_msg.ensures in
+    let message : HasMessage c.self.inside.store.world p c.args.on bytes c.args.max_fds f c.prepare_receive.new.fds = search rules in
+    let numbers = c.as_slice.ensures in
+    let reply = got-is message found.world numbers c.take_msg.new.taken took.taken ∙ sym (ap got_reply c.receive_answer.ensures) in
+    let leads = recv-is message found.world numbers ∙ sym (ap (λ (s : StoreView). s.world) took.world) in
+    let pass = c.release.ensures.pass ∙ ap (λ (s : StoreView). s.pass) took.world ∙ found.pass in
+    let since = c.release.ensures.since ∙ ap (λ (s : StoreView). s.since) took.world ∙ found.since in
+    does c.self.view_is p (step.Recv c.args.on bytes c.args.max_fds) c.release.new.self (got_reply c.receive_answer.result) c.take_msg.new.self.world found.fits reply leads c.release.ensures.settles pass since
