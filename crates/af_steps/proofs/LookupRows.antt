@@ -18,6 +18,10 @@ use Rattle.af_steps.specs.Found.{HasNumber, HasProcess, HasSocket}
 pub no-socket : (w : World) (p n : ℕ) (rest : RefusalRow) (e : Errno) → first_fit (on_process (map.get w.processes p) ++ at_socket w p n) ≡ Some e → first_fit (on_process (map.get w.processes p) ++ (at_socket w p n ++ rest)) ≡ Some e
 no-socket w p n rest e is = goes-on (on_process (map.get w.processes p) ++ at_socket w p n) rest e is
 
+-- No file was found: that refuses each step that asks for one.
+pub no-number : (w : World) (p n : ℕ) (rest : RefusalRow) (e : Errno) → first_fit (on_process (map.get w.processes p) ++ on_number (table_at w p n)) ≡ Some e → first_fit (on_process (map.get w.processes p) ++ (on_number (table_at w p n) ++ rest)) ≡ Some e
+no-number w p n rest e is = goes-on (on_process (map.get w.processes p) ++ on_number (table_at w p n)) rest e is
+
 module _ {w : World} {p : ℕ} {q : Process} (has : HasProcess w p q) where
   -- The descriptor of the process refers to it.
   pub is_process : process_at w p ≡ q

@@ -50,6 +50,10 @@ pub answered-is : {X : Type 0} (answered : Result X Errno) (e : Errno) → IsErr
 answered-is (Ok x) e is = absurd is
 answered-is (Err x) e is = ap Err is
 
+-- The answer says what the mapped error says.
+pub told : {X : Type 0} (P : Errno → Type 0) (answered : Result X Errno) (e : Errno) → IsErrAnd answered (λ x. x ≡ e) → P e → IfErr answered P
+told P answered e is holds = subst (λ a. IfErr a P) (sym (answered-is answered e is)) holds
+
 -- An engine that shows `old`, has this inside, and answers an error.
 module _ {inside old : Machine} (shown : inside ≡ old) (p : ℕ) (s : Step) {X : Type 0} (answered : Result X Errno) (e : Errno) (is : IsErrAnd answered (λ x. x ≡ e)) where
   -- A test fits, and nothing was changed.

@@ -1,14 +1,16 @@
 //! The look-ups of an event, before its own tests.
-ghost use Rattle.std.specs.Prelude.{◌≡◌, ◌++◌, None, Some, false, IfErr, IfOk, OnOk, slice_get};
+ghost use Rattle.std.specs.Prelude.{◌≡◌, ◌++◌, ◌∷◌, [], None, Some, false, IfErr, IfOk, OnOk};
+ghost use Rattle.std.specs.Prelude.{slice_get};
 ghost use Rattle.std.specs.FinMap as map;
-ghost use Rattle.af_base.specs.Refusals.{at_socket, first_fit, is_full, on_process, process_at};
-ghost use Rattle.af_base.specs.Refusals.{refusal};
-ghost use Rattle.af_base.specs.Table.{free_numbers};
+ghost use Rattle.af_base.specs.Places.{table_at};
+ghost use Rattle.af_base.specs.Refusals.{at_socket, first_fit, is_full, on_number, on_process};
+ghost use Rattle.af_base.specs.Refusals.{process_at, refusal};
+ghost use Rattle.af_base.specs.Table.{free_numbers, lowest_free};
 ghost use Rattle.af_collect.specs.StoreView.{room_at};
-ghost use Rattle.af_steps.specs.Found.{HasProcess, HasSocket};
+ghost use Rattle.af_steps.specs.Found.{HasNumber, HasProcess, HasSocket};
 
 use af_base::errno::Errno;
-use af_base::events::Step;
+use af_base::events::{SockType, Step};
 use af_base::ids::{Fd, FileRef, Pid};
 use af_collect::Store;
 use af_desc::Socket;
@@ -30,6 +32,41 @@ pub fn descriptor_for_file(store: &Store, pid: Pid) -> Result<Fd, Errno>
         return Err(Errno::ENFILE);
     }
     Ok(fd)
+}
+
+/// Returns the two lowest free descriptors of the process, rising, for two new files; or why there
+/// are none.
+#[inline(always)]
+pub fn descriptors_for_pair(store: &Store, pid: Pid) -> Result<(Fd, Fd), Errno>
+    ensures there { OnOk result (HasProcess store.now.world pid (process_at store.now.world pid)) }
+    ensures lowest { IfOk result (λ fds.
+        lowest_free 2 (process_at store.now.world pid) ≡ fds.0 ∷ fds.1 ∷ []) }
+    ensures room { OnOk result (is_full store.now.world 2 ≡ false) }
+    ensures fits { OnOk result
+        ((kind : SockType) → refusal store.now.world pid (Step.Pair kind) ≡ None) }
+    ensures refused { IfErr result (λ e.
+        (kind : SockType) → refusal store.now.world pid (Step.Pair kind) ≡ Some e) }
+{
+    let process = store.holdings().procs().find(pid).ok_or(Errno::ESRCH)?;
+    let fds = process.lowest_two().ok_or(Errno::EMFILE)?;
+    if store.holdings().files().is_full(2) {
+        return Err(Errno::ENFILE);
+    }
+    Ok(fds)
+}
+
+/// Returns the process, and the file of its descriptor; or why there is none.
+#[inline(always)]
+pub fn file_on(store: &Store, pid: Pid, fd: Fd) -> Result<(&Process, FileRef), Errno>
+    ensures found { IfOk result (λ found.
+        HasNumber store.now.world pid found.0.now.process fd found.1) }
+    ensures refused { IfErr result (λ e. first_fit (on_process
+        (map.get store.now.world.processes pid) ++ on_number (table_at store.now.world pid fd))
+        ≡ Some e) }
+{
+    let process = store.holdings().procs().find(pid).ok_or(Errno::ESRCH)?;
+    let file = process.lookup(fd).ok_or(Errno::EBADF)?;
+    Ok((process, file))
 }
 
 /// Returns the process, the file of its descriptor, and the socket that this is; or why there is

@@ -8,6 +8,7 @@ ghost use Rattle.af_base.specs.Refusals.{peer_of};
 ghost use Rattle.af_base.specs.World.{IsLive};
 
 use crate::engine::Engine;
+use crate::lookups::file_on;
 use crate::messages::check_receive;
 use crate::sockets::check_accept;
 use af_base::errno::Errno;
@@ -29,8 +30,7 @@ impl Engine {
             first_fit (on_process (map.get self.now.world.processes pid)
             ++ on_number (table_at self.now.world pid fd)) ≡ Some e) }
     {
-        let process = self.store.holdings().procs().find(pid).ok_or(Errno::ESRCH)?;
-        let file = process.lookup(fd).ok_or(Errno::EBADF)?;
+        let (_, file) = file_on(&self.store, pid, fd)?;
         Ok(self.ready_at(&file))
     }
 

@@ -8,7 +8,7 @@ ghost use Rattle.af_steps.specs.Found.{HasListener};
 ghost use Rattle.af_steps.specs.Outcome.{Does, Refuses};
 
 use crate::engine::Engine;
-use crate::lookups::{descriptor_for_file, socket_on};
+use crate::lookups::{descriptor_for_file, descriptors_for_pair, socket_on};
 use af_base::errno::Errno;
 use af_base::events::{Reply, SockType, State, Step};
 use af_base::ids::{Fd, FileRef, Pid};
@@ -25,11 +25,7 @@ impl Engine {
             Does self.old pid (Step.Pair kind) (Reply.Fds fds.0 fds.1) self.new) }
         ensures refused { IfErr result (λ e. Refuses self.old pid (Step.Pair kind) e self.new) }
     {
-        let process = self.store.holdings().procs().find(pid).ok_or(Errno::ESRCH)?;
-        let (lower, higher) = process.lowest_two().ok_or(Errno::EMFILE)?;
-        if self.store.holdings().files().is_full(2) {
-            return Err(Errno::ENFILE);
-        }
+        let (lower, higher) = descriptors_for_pair(&self.store, pid)?;
         self.store.pair_at(kind, pid, lower, higher)?;
         self.store.release();
         Ok((lower, higher))

@@ -3,7 +3,7 @@ ghost use Rattle.std.specs.Prelude.{◌≡◌, IfErr, IfOk, OnOk};
 ghost use Rattle.af_steps.specs.Outcome.{Does, Refuses, RefusesStart, Starts};
 
 use crate::engine::Engine;
-use crate::lookups::descriptor_for_file;
+use crate::lookups::{descriptor_for_file, file_on};
 use af_base::errno::Errno;
 use af_base::events::{Reply, Step};
 use af_base::ids::{Fd, Pid, Uid};
@@ -48,8 +48,7 @@ impl Engine {
             Does self.old pid (Step.Dup from) (Reply.Fd fd) self.new) }
         ensures refused { IfErr result (λ e. Refuses self.old pid (Step.Dup from) e self.new) }
     {
-        let process = self.store.holdings().procs().find(pid).ok_or(Errno::ESRCH)?;
-        let file = process.lookup(from).ok_or(Errno::EBADF)?;
+        let (process, file) = file_on(&self.store, pid, from)?;
         let fd = process.lowest().ok_or(Errno::EMFILE)?;
         // A file in a table is no garbage of a running pass.
         self.store.lemma_is_spared();
@@ -67,8 +66,7 @@ impl Engine {
             Does self.old pid (Step.Dup2 from to) (Reply.Fd fd) self.new) }
         ensures refused { IfErr result (λ e. Refuses self.old pid (Step.Dup2 from to) e self.new) }
     {
-        let process = self.store.holdings().procs().find(pid).ok_or(Errno::ESRCH)?;
-        let file = process.lookup(from).ok_or(Errno::EBADF)?;
+        let (process, file) = file_on(&self.store, pid, from)?;
         if to == from {
             return Ok(to);
         }
