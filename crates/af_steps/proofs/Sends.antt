@@ -7,57 +7,45 @@ use Rattle.std.proofs.lemmas.Bool.{eqb-false, ltb-false, or_parts}
 use Rattle.af_base.specs.declared.errno.Errno.{Errno}
 use Rattle.af_base.specs.declared.events.Step.TheVariants as step
 use Rattle.af_base.specs.declared.limits.TheConstants.{MAX_BYTES, MAX_INFLIGHT, SCM_MAX_FD}
-use Rattle.af_base.specs.Counts.{charged, total}
-use Rattle.af_base.specs.Places.{InTable, queue_at, table_at}
-use Rattle.af_base.specs.Refusals.{RefusalRow, first_fit, on_charge, on_parts, on_peer, on_room, peer_of, refusal, socket_at}
+use Rattle.af_base.specs.Counts.{total}
+use Rattle.af_base.specs.Places.{InTable, table_at}
+use Rattle.af_base.specs.Refusals.{RefusalRow, first_fit, on_parts, on_peer, peer_of, refusal}
 use Rattle.af_base.specs.Whole.{IsMessageWithin}
 use Rattle.af_base.specs.World.{Message, Process, Socket, World}
 use Rattle.af_base.proofs.SoundSteps.{attached-most, attached-tabled, goes-on, none-fits, passes-on}
 use Rattle.af_steps.specs.Found.{HasSocket}
-use Rattle.af_steps.proofs.LookupRows.{after-socket, looks, queue-is}
+use Rattle.af_steps.specs.Posted.{room_row}
+use Rattle.af_steps.proofs.LookupRows.{after-socket, looks}
 
 module _ {w : World} {p n f : ℕ} {q : Process} {x : Socket} (has : HasSocket w p q n f x) (bytes attach : List ℕ) where
   -- The part of its bytes and numbers, by what was found.
   abbrev parts : RefusalRow
   parts = on_parts (map.get q.table) bytes attach
 
-  -- That of the charge.
-  abbrev pub charges : RefusalRow
-  charges = on_charge (charged w q.user) (total w) q.limit q.privileged (length attach)
-
-  -- That of the queue.
+  -- Those of the charge, and of the queue.
   abbrev room : RefusalRow
-  room = on_room (queue_at w (peer_of x.state))
+  room = room_row w q (peer_of x.state) (length attach)
 
   -- All of them.
-  row : refusal w p (step.Send n bytes attach) ≡ first_fit (parts ++ (on_peer x ++ (charges ++ room)))
-  row = after-socket has (λ r look s. on_parts look bytes attach ++ (on_peer s ++ (on_charge (charged w r.user) (total w) r.limit r.privileged (length attach) ++ on_room (queue_at w (peer_of s.state)))))
+  row : refusal w p (step.Send n bytes attach) ≡ first_fit (parts ++ (on_peer x ++ room))
+  row = after-socket has (λ r look s. on_parts look bytes attach ++ (on_peer s ++ room_row w r (peer_of s.state) (length attach)))
 
   -- Its bytes or its numbers are refused.
   pub refused-parts : (e : Errno) → first_fit parts ≡ Some e → refusal w p (step.Send n bytes attach) ≡ Some e
-  refused-parts e fits = row ∙ goes-on parts (on_peer x ++ (charges ++ room)) e fits
+  refused-parts e fits = row ∙ goes-on parts (on_peer x ++ room) e fits
 
   module _ (given : first_fit parts ≡ None) where
     -- The parts that are left then.
-    after-parts : refusal w p (step.Send n bytes attach) ≡ first_fit (on_peer x ++ (charges ++ room))
-    after-parts = row ∙ passes-on parts (on_peer x ++ (charges ++ room)) given
+    after-parts : refusal w p (step.Send n bytes attach) ≡ first_fit (on_peer x ++ room)
+    after-parts = row ∙ passes-on parts (on_peer x ++ room) given
 
     -- It can talk to nobody.
     pub refused-peer : (e : Errno) → first_fit (on_peer x) ≡ Some e → refusal w p (step.Send n bytes attach) ≡ Some e
-    refused-peer e fits = after-parts ∙ goes-on (on_peer x) (charges ++ room) e fits
+    refused-peer e fits = after-parts ∙ goes-on (on_peer x) room e fits
 
-    module _ (alive : first_fit (on_peer x) ≡ None) where
-      -- And those that are left then.
-      after-peer : refusal w p (step.Send n bytes attach) ≡ first_fit (charges ++ room)
-      after-peer = after-parts ∙ passes-on (on_peer x) (charges ++ room) alive
-
-      -- Too much is in flight.
-      pub refused-charge : (e : Errno) → first_fit charges ≡ Some e → refusal w p (step.Send n bytes attach) ≡ Some e
-      refused-charge e fits = after-peer ∙ goes-on charges room e fits
-
-      -- Whether the queue of the peer is full decides.
-      pub after-charge : first_fit charges ≡ None → (g : ℕ) (y : Socket) → g ≡ peer_of x.state → socket_at w g ≡ Some y → refusal w p (step.Send n bytes attach) ≡ first_fit (on_room y.queue)
-      after-charge paid g y to heard = after-peer ∙ passes-on charges room paid ∙ ap (λ h. first_fit (on_room (queue_at w h))) (sym to) ∙ ap (λ q. first_fit (on_room q)) (queue-is w g y heard)
+    -- It can talk to this socket: what is left decides.
+    pub after-peer : first_fit (on_peer x) ≡ None → (g : ℕ) → g ≡ peer_of x.state → refusal w p (step.Send n bytes attach) ≡ first_fit (room_row w q g (length attach))
+    after-peer alive g to = after-parts ∙ passes-on (on_peer x) room alive ∙ ap (λ h. first_fit (room_row w q h (length attach))) (sym to)
 
   -- The message that is sent.
   abbrev pub sent : Message
@@ -73,8 +61,8 @@ module _ {w : World} {p n f : ℕ} {q : Process} {x : Socket} (has : HasSocket w
     sent-tabled g h = let tabled = attached-tabled w p attach g (subst (λ fs. Contains fs g) carries h) in (p, tabled.0, tabled.1)
 
     -- All queues have room for them.
-    pub sent-flying : first_fit charges ≡ None → total w + length m.attached ≤ MAX_INFLIGHT
-    sent-flying paid = let flying = ltb-false MAX_INFLIGHT (total w + length attach) (none-fits charges paid).rest.here in omega (arith, flying, attached-most w p attach, ap length carries)
+    pub sent-flying : (s : ℕ) → first_fit (room_row w q s (length attach)) ≡ None → total w + length m.attached ≤ MAX_INFLIGHT
+    sent-flying s paid = let flying = ltb-false MAX_INFLIGHT (total w + length attach) (none-fits (room_row w q s (length attach)) paid).rest.here in omega (arith, flying, attached-most w p attach, ap length carries)
 
     -- The message is within the limits.
     pub sent-within : first_fit parts ≡ None → IsMessageWithin m

@@ -1,18 +1,24 @@
 -- A message that comes into a queue.
-use Rattle.std.specs.Prelude.{◌≡◌, ◌≤◌, ◌<◌, ◌+◌, ℕ, List, length, is_none, false}
+use Rattle.std.specs.Prelude.{◌≡◌, ◌≤◌, ◌<◌, ◌+◌, ◌++◌, ℕ, List, length, is_none, false}
 use Rattle.std.specs.List.{Contains}
 use Rattle.af_base.specs.declared.limits.TheConstants.{MAX_INFLIGHT, MAX_MESSAGES}
-use Rattle.af_base.specs.Counts.{total}
+use Rattle.af_base.specs.Counts.{charged, total}
 use Rattle.af_base.specs.Places.{InTable, queue_at}
-use Rattle.af_base.specs.Refusals.{socket_at}
+use Rattle.af_base.specs.Refusals.{RefusalRow, on_charge, on_room, socket_at}
 use Rattle.af_base.specs.Whole.{IsMessageWithin}
-use Rattle.af_base.specs.World.{Message, World}
+use Rattle.af_base.specs.World.{Message, Process, World}
 use Rattle.af_collect.specs.Limits.{IsOfProcess}
 use Rattle.af_steps.specs.declared.messages.Envelope.{Envelope}
 
 -- The message of these bytes in the envelope.
 abbrev pub message_in : Envelope → List ℕ → Message
 message_in e bytes = record { bytes = bytes; attached = e.attached.items; user = e.user }
+
+-- Process q must be free to have this many descriptors more in flight, and the queue of socket s
+-- must have room: two parts of the row of a send.
+abbrev pub room_row : World → Process → ℕ → ℕ → RefusalRow
+room_row w q s count = on_charge (charged w q.user) (total w) q.limit q.privileged count
+    ++ on_room (queue_at w s)
 
 -- Socket s of this world has room for the message: its queue is not full, tables hold its files,
 -- the user of a process is charged for them, and all limits are kept.

@@ -12,15 +12,16 @@ ghost use Rattle.af_collect.specs.Receiving.{CanReceive};
 ghost use Rattle.af_collect.specs.StoreView.{room_at};
 ghost use Rattle.af_steps.specs.Found.{HasEnd, HasMessage};
 ghost use Rattle.af_steps.specs.Outcome.{Does, Refuses, got_reply, step_error};
-ghost use Rattle.af_steps.specs.Posted.{HasRoom, message_in};
+ghost use Rattle.af_steps.specs.Posted.{HasRoom, message_in, room_row};
 
 use crate::engine::Engine;
 use crate::lookups::socket_on;
+use crate::ready::has_room;
 use af_base::errno::Errno;
 use af_base::events::{Reply, State, Step};
 use af_base::ids::{Fd, FileRef, Pid, Uid};
 use af_base::items::{Bytes, Fds, Items};
-use af_base::limits::{MAX_BYTES, MAX_MESSAGES, SCM_MAX_FD};
+use af_base::limits::{MAX_BYTES, SCM_MAX_FD};
 use af_collect::Store;
 use af_desc::Socket;
 use af_queue::{Attached, Msg, Taken};
@@ -133,13 +134,7 @@ impl Engine {
         let mut attached = SmallVec::new(self.alloc);
         check_parts(process, bytes, attach, &mut attached)?;
         let peer = peer_of(&socket)?;
-        let (user, limit, privileged) = process.who();
-        let holdings = self.store.holdings();
-        holdings.may_send(user, limit, privileged, attach.len())?;
-        // The peer of a connected socket is a live socket.
-        if holdings.socket(&peer).unwrap().queue().len() >= MAX_MESSAGES {
-            return Err(Errno::EAGAIN);
-        }
+        let user = check_room(&self.store, process, &peer, attach.len())?;
         // The list is short where memory for it was refused.
         if attached.len() < attach.len() {
             return Err(Errno::ENOMEM);
@@ -297,6 +292,24 @@ fn peer_of(socket: &Socket) -> Result<FileRef, Errno>
         State::HungUp => Err(Errno::EPIPE),
         _ => Err(Errno::ENOTCONN),
     }
+}
+
+/// Returns the user of a process, who is charged for this many descriptors; or why they may not be
+/// in flight, or the queue of the peer has no room.
+#[inline(always)]
+fn check_room(store: &Store, process: &Process, peer: &FileRef, count: usize) -> Result<Uid, Errno>
+    ensures user { IfOk result (λ user. user ≡ process.now.process.user) }
+    ensures ok { OnOk result
+        (first_fit (room_row store.now.world process.now.process peer.now count) ≡ None) }
+    ensures err { IfErr result (λ e.
+        first_fit (room_row store.now.world process.now.process peer.now count) ≡ Some e) }
+{
+    let (user, limit, privileged) = process.who();
+    store.holdings().may_send(user, limit, privileged, count)?;
+    if !has_room(store, peer) {
+        return Err(Errno::EAGAIN);
+    }
+    Ok(user)
 }
 
 /// Returns the socket that a receive or a peek takes from, fills an empty list with the free

@@ -72,7 +72,8 @@ fn writes(store: &Store, socket: &Socket) -> bool
 }
 
 /// Returns whether the queue of a file has room for one message more.
-fn has_room(store: &Store, file: &FileRef) -> bool
+#[inline(always)]
+pub(crate) fn has_room(store: &Store, file: &FileRef) -> bool
     ensures { result ≡ nat_lt (length (queue_at store.now.world file.now)) MAX_MESSAGES }
 {
     match store.holdings().socket(file) {
