@@ -39,7 +39,7 @@ can-receive {p} {n} {bytes} {fds} {f} {ns} store new has spared world pass room 
 
 -- The receive or the peek, in a world that is the same.
 module _ {w v : World} {p n bytes fds f : ℕ} {ns ms : List ℕ} (has : HasMessage w p n bytes fds f ns) (same : v ≡ w) (numbers : ms ≡ ns) where
-  -- What it takes is at the head of this queue.
+  -- It takes the messages at the head of this queue.
   taken-is : taken_on w p n bytes ≡ taken_at v f bytes
   taken-is = ap (λ o. let x = unwrap_or (option_and_then (socket_at w) o) no_socket in take_from x.kind x.queue bytes) has.tabled ∙ ap (λ u. taken_at u f bytes) (sym same)
 
