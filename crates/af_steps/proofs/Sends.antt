@@ -1,20 +1,28 @@
 -- A send: its row by its parts, and that the queue has room for its message.
-use Rattle.std.proofs.Common.{◌≡◌, ◌≤◌, ℕ, ◌+◌, List, ◌++◌, length, sym, ap, ◌∙◌, subst, arith}
-use Rattle.std.specs.Prelude.{Some, None, filter_map, nat_eq, nat_lt}
+use Rattle.std.proofs.Common.{◌≡◌, ◌≤◌, ℕ, ◌+◌, List, ◌++◌, false, length, sym, ap, ◌∙◌, subst, arith}
+use Rattle.std.specs.Prelude.{Some, None, Result, Ok, Err, IfErr, IfOk, OnOk, filter_map, nat_eq, nat_lt}
 use Rattle.std.specs.FinMap as map
 use Rattle.std.specs.List.{Contains}
 use Rattle.std.proofs.lemmas.Bool.{eqb-false, ltb-false, or_parts}
 use Rattle.af_base.specs.declared.errno.Errno.{Errno}
+use Rattle.af_base.specs.declared.errno.Errno.TheVariants.{ENOMEM}
+use Rattle.af_base.specs.declared.events.Reply.TheVariants as reply
 use Rattle.af_base.specs.declared.events.Step.TheVariants as step
 use Rattle.af_base.specs.declared.limits.TheConstants.{MAX_BYTES, MAX_INFLIGHT, SCM_MAX_FD}
+use Rattle.af_base.specs.Changes.{push_message}
 use Rattle.af_base.specs.Counts.{total}
+use Rattle.af_base.specs.Pass.{Machine, SamePass}
 use Rattle.af_base.specs.Places.{InTable, table_at}
 use Rattle.af_base.specs.Refusals.{RefusalRow, first_fit, on_parts, on_peer, peer_of, refusal}
+use Rattle.af_base.specs.Steps.{effect}
+use Rattle.af_base.specs.Unheld.{Settles}
 use Rattle.af_base.specs.Whole.{IsMessageWithin}
 use Rattle.af_base.specs.World.{Message, Process, Socket, World}
 use Rattle.af_base.proofs.SoundSteps.{attached-most, attached-tabled, goes-on, none-fits, passes-on}
 use Rattle.af_steps.specs.Found.{HasSocket}
-use Rattle.af_steps.specs.Posted.{room_row}
+use Rattle.af_steps.specs.declared.messages.Envelope.{Envelope}
+use Rattle.af_steps.specs.Outcome.{Does, Refuses, error_of}
+use Rattle.af_steps.specs.Posted.{message_in, room_row}
 use Rattle.af_steps.proofs.LookupRows.{after-socket, looks}
 
 module _ {w : World} {p n f : ℕ} {q : Process} {x : Socket} (has : HasSocket w p q n f x) (bytes attach : List ℕ) where
@@ -76,3 +84,15 @@ module _ {w : World} {p n f : ℕ} {q : Process} {x : Socket} (has : HasSocket w
           bytes = ltb-false MAX_BYTES (length bytes) tests.rest.here;
           attached = omega (arith, few, attached-most w p attach, ap (λ look. length (filter_map look attach)) (looks has.number.process));
         })
+
+-- A prepared send, which keeps a copy of the bytes.
+module _ (old new : Machine) (p n : ℕ) {bytes kept : List ℕ} (attach : List ℕ) (e : Envelope) (same : kept ≡ bytes) (fits : refusal old.world p (step.Send n bytes attach) ≡ None) (leads : effect old.world p (step.Send n bytes attach) ≡ push_message old.world e.peer (message_in e bytes)) where
+  -- Its message came into the queue.
+  pub sent-done : (o : Result ℕ Errno) → IfOk o (λ k. k ≡ length kept) → OnOk o (Settles (push_message old.world e.peer (message_in e kept)) new.world) → OnOk o (SamePass old new) → IfOk o (λ k. Does old p (step.Send n bytes attach) (reply.Sent k) new)
+  sent-done (Ok k) count settles pass = (fits, ap reply.Sent (count ∙ ap length same), subst (λ v. Settles v new.world) (ap (λ b. push_message old.world e.peer (message_in e b)) same ∙ sym leads) settles, pass)
+  sent-done (Err x) count settles pass = tt
+
+  -- Memory for it was refused.
+  pub sent-not : (o : Result ℕ Errno) → IfErr o (λ x. (x ≡ ENOMEM) × (new ≡ old)) → IfErr o (λ x. Refuses old p (step.Send n bytes attach) x new)
+  sent-not (Ok k) stays = tt
+  sent-not (Err x) stays = (ap (λ r. error_of r false) fits ∙ ap Some (sym stays.0), stays.1)

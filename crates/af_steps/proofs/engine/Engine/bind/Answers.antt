@@ -1,10 +1,14 @@
-use Rattle.std.proofs.Common.{rules, ◌++◌, ◌∙◌}
+use Rattle.std.proofs.Common.{rules, ◌≡◌, ◌++◌, refl, sym, ap, ◌∙◌}
+use Rattle.std.specs.Prelude.{None}
+use Rattle.af_base.specs.declared.events.Reply.TheVariants as reply
 use Rattle.af_base.specs.declared.events.Step.TheVariants as step
+use Rattle.af_base.specs.Changes.{with_name, with_socket}
 use Rattle.af_base.specs.Names.{named}
-use Rattle.af_base.specs.Refusals.{on_bind, on_name, socket_on}
-use Rattle.af_base.proofs.SoundSteps.{goes-on}
-use Rattle.af_steps.proofs.LookupRows.{after-socket, no-socket}
-use Rattle.af_steps.proofs.Outcomes.{turned-down}
+use Rattle.af_base.specs.Refusals.{first_fit, on_bind, on_name, socket_on}
+use Rattle.af_base.proofs.SoundSteps.{goes-on, passes-on}
+use Rattle.af_collect.specs.StoreView.{StoreView}
+use Rattle.af_steps.proofs.LookupRows.{after-socket, ino-is, no-socket}
+use Rattle.af_steps.proofs.Outcomes.{does, turned-down}
 use Rattle.af_steps.proofs.engine.Engine.bind.Goals as goal
 
 pub returns-in_err-file-clause-refused : goal.returns-in_err-file-clause-refused
@@ -26,3 +30,16 @@ returns-in_err-check_bind-clause-refused c =
 
 pub bind-requires-clause-free : goal.bind-requires-clause-free
 bind-requires-clause-free c = search rules
+
+pub returns-clause-done : goal.returns-clause-done
+returns-clause-done c =
+    let w = c.self.inside.store.world in
+    let name = c.args.name.now in
+    let found = c.in_ok-file.ensures.found in
+    let none : named w.files name ≡ None = search rules in
+    let fits = after-socket found (λ r look s. on_bind s name ++ on_name (named w.files name)) ∙ passes-on (on_bind c.in_ok-file.socket name) (on_name (named w.files name)) c.in_ok-check_bind.ensures.ok ∙ ap (λ o. first_fit (on_name o)) none in
+    let placed = c.in_ok-bind.ensures.ok in
+    let leads = ap (λ f. with_socket w f (with_name name)) (ino-is found.number) ∙ sym (ap (λ (s : StoreView). s.world) placed) in
+    let pass = c.release.ensures.pass ∙ ap (λ (s : StoreView). s.pass) placed in
+    let since = c.release.ensures.since ∙ ap (λ (s : StoreView). s.since) placed in
+    does c.self.view_is c.args.pid (step.Bind c.args.on name) c.release.new.self reply.Ok c.bind.new.self.world fits refl leads c.release.ensures.settles pass since
