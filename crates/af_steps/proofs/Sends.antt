@@ -22,7 +22,7 @@ use Rattle.af_base.proofs.SoundSteps.{attached-most, attached-tabled, goes-on, n
 use Rattle.af_steps.specs.Found.{HasSocket}
 use Rattle.af_steps.specs.declared.messages.Envelope.{Envelope}
 use Rattle.af_steps.specs.Outcome.{Does, Refuses, error_of}
-use Rattle.af_steps.specs.Posted.{message_in, room_row}
+use Rattle.af_steps.specs.MessageRoom.{message_in, room_row}
 use Rattle.af_steps.proofs.LookupRows.{after-socket, looks}
 
 module _ {w : World} {p n f : ℕ} {q : Process} {x : Socket} (has : HasSocket w p q n f x) (bytes attach : List ℕ) where

@@ -1,4 +1,4 @@
-pub mod Found
 pub mod FileInfo
+pub mod Found
+pub mod MessageRoom
 pub mod Outcome
-pub mod Posted

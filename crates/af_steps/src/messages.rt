@@ -12,7 +12,7 @@ ghost use Rattle.af_collect.specs.Receiving.{CanReceive};
 ghost use Rattle.af_collect.specs.StoreView.{room_at};
 ghost use Rattle.af_steps.specs.Found.{HasEnd, HasMessage};
 ghost use Rattle.af_steps.specs.Outcome.{Does, Refuses, got_reply, step_error};
-ghost use Rattle.af_steps.specs.Posted.{HasRoom, message_in, room_row};
+ghost use Rattle.af_steps.specs.MessageRoom.{HasRoom, message_in, room_row};
 
 use crate::engine::Engine;
 use crate::lookups::socket_on;
@@ -78,7 +78,7 @@ struct Envelope {
 /// The socket that a receive takes from, and whether the process has room for each descriptor
 /// below its limit.
 #[derive(Drop)]
-struct Source {
+struct ReceivingSocket {
     file: FileRef,
     has_room: bool,
 }
@@ -360,7 +360,7 @@ fn find_message(
     max_bytes: u32,
     max_fds: u32,
     fds: &mut Fds,
-) -> Result<Option<Source>, Errno>
+) -> Result<Option<ReceivingSocket>, Errno>
     requires { fds.old ≡ [] }
     ensures fits { OnOk result
         (refusal store.now.world pid (Step.Recv on max_bytes max_fds) ≡ None) }
@@ -382,7 +382,7 @@ fn find_message(
         .queue()
         .files_in_receive(socket.kind(), max_bytes as usize);
     process.lowest_free(files.min(max_fds as usize), fds)?;
-    Ok(Some(Source {
+    Ok(Some(ReceivingSocket {
         file,
         has_room: process.has_room(),
     }))
@@ -391,7 +391,12 @@ fn find_message(
 /// Reserves room to install these descriptors of the process that receives, if there is none. No
 /// process can see a change, also on an error.
 #[inline(always)]
-fn make_room(store: &mut Store, source: &Source, pid: Pid, fds: &Fds) -> Result<(), AllocError>
+fn make_room(
+    store: &mut Store,
+    source: &ReceivingSocket,
+    pid: Pid,
+    fds: &Fds,
+) -> Result<(), AllocError>
     requires { source.now.has_room
         ≡ nat_le (process_at store.old.world pid).limit (room_at store.old pid) }
     ensures world { store.new.world ≡ store.old.world }

@@ -47,22 +47,22 @@ impl Engine {
             };
         };
         Ready {
-            readable: reads(&socket),
-            writable: writes(&self.store, &socket),
+            readable: is_readable(&socket),
+            writable: is_writable(&self.store, &socket),
             hung_up: is_hung_up(&socket),
         }
     }
 }
 
 /// Returns whether a receive of a byte from the socket, or an accept at it, is not refused.
-fn reads(socket: &Socket) -> bool
+fn is_readable(socket: &Socket) -> bool
     ensures { result ≡ reads socket.now }
 {
     check_receive(socket, 1).is_ok() || check_accept(socket).is_ok()
 }
 
 /// Returns whether the socket has a peer, and room there.
-fn writes(store: &Store, socket: &Socket) -> bool
+fn is_writable(store: &Store, socket: &Socket) -> bool
     ensures { result ≡ writes socket.now (queue_at store.now.world (peer_of socket.now.state)) }
 {
     match socket.peer() {

@@ -7,7 +7,7 @@ use Rattle.af_base.specs.Counts.{charged, total}
 use Rattle.af_base.specs.Places.{queue_at}
 use Rattle.af_base.specs.Refusals.{RefusalRow, first_fit, on_charge, on_room}
 use Rattle.af_base.proofs.SoundSteps.{goes-on, passes-on}
-use Rattle.af_steps.specs.Posted.{room_row}
+use Rattle.af_steps.specs.MessageRoom.{room_row}
 use Rattle.af_steps.proofs.Outcomes.{told}
 use Rattle.af_steps.proofs.messages.check_room.Goals.{After-may_send}
 use Rattle.af_steps.proofs.messages.check_room.Goals as goal

@@ -9,7 +9,7 @@ use Rattle.af_base.specs.Places.{queue_at, table_at}
 use Rattle.af_base.specs.Refusals.{refusal, on_parts, on_peer, peer_of, process_at, socket_on}
 use Rattle.af_base.specs.World.{Message}
 use Rattle.af_base.proofs.SoundSteps.{none-fits}
-use Rattle.af_steps.specs.Posted.{HasRoom, message_in, room_row}
+use Rattle.af_steps.specs.MessageRoom.{HasRoom, message_in, room_row}
 use Rattle.af_steps.proofs.LookupRows.{is_process, no-socket}
 use Rattle.af_steps.proofs.Outcomes.{starves, turned-down}
 use Rattle.af_steps.proofs.Sends.{after-peer, refused-parts, refused-peer, sent, sent-flying, sent-tabled, sent-within}

@@ -1,4 +1,4 @@
--- A message that comes into a queue.
+-- The message of a send, and the room that it needs in a queue.
 use Rattle.std.specs.Prelude.{◌≡◌, ◌≤◌, ◌<◌, ◌+◌, ◌++◌, ℕ, List, length, is_none, false}
 use Rattle.std.specs.List.{Contains}
 use Rattle.af_base.specs.declared.limits.TheConstants.{MAX_INFLIGHT, MAX_MESSAGES}
