@@ -199,7 +199,7 @@ fn take_stream(
 fn cut(nodes: &mut Slab<Node>, chain: &mut Chain, count: usize, taken: &mut Taken)
     requires chain { IsChain nodes.old chain.old }
     requires some { 0 < count }
-    requires bare { taken.old.message.attached ≡ [] }
+    requires no_files { taken.old.message.attached ≡ [] }
     ensures messages { messages_of nodes.new chain.new
         ≡ cut count (messages_of nodes.old chain.old) }
     ensures taken { taken.new ≡ option_map_or (λ m. with_files_of m taken.old)
@@ -248,7 +248,7 @@ fn cut_first(nodes: &mut Slab<Node>, chain: &mut Chain, count: usize, taken: &mu
     requires some { 0 < count }
     requires long { IfSome (slice_get (messages_of nodes.old chain.old) 0) (λ m.
         count ≤ length m.bytes) }
-    requires bare { taken.old.message.attached ≡ [] }
+    requires no_files { taken.old.message.attached ≡ [] }
     ensures messages { messages_of nodes.new chain.new
         ≡ cut count (messages_of nodes.old chain.old) }
     ensures taken { taken.new ≡ option_map_or (λ m. with_files_of m taken.old)
@@ -274,7 +274,7 @@ fn shorten_first(nodes: &mut Slab<Node>, chain: &Chain, count: usize, taken: &mu
     requires some { 0 < count }
     requires long { count
         < option_map_or (λ m. length m.bytes) (slice_get (messages_of nodes.old chain.now) 0) 0 }
-    requires bare { taken.old.message.attached ≡ [] }
+    requires no_files { taken.old.message.attached ≡ [] }
     ensures messages { messages_of nodes.new chain.now
         ≡ cut count (messages_of nodes.old chain.now) }
     ensures taken { taken.new ≡ option_map_or (λ m. with_files_of m taken.old)
