@@ -1,4 +1,5 @@
 pub mod Held
+pub mod Lends
 pub mod Codes
 pub mod Calls
 pub mod Written

@@ -34,12 +34,10 @@ pub extern "C" fn jw_check(alloc: Global, engine: &mut Handle, out: &mut CChecke
     ensures value { Tells engine.old.shown (λ m c. IsChecked m.world c.live c.garbage) out.old
         result out.new ⊎ ((result ≡ error_code Errno.ENOMEM) × (out.new ≡ out.old)) }
 {
-    let Some(inside) = engine.take(alloc) else {
+    let Some(inside) = engine.as_mut() else {
         return NO_ENGINE;
     };
-    let found = count(alloc, &*inside);
-    *engine = Handle::of(inside);
-    let Ok(found) = found else {
+    let Ok(found) = count(alloc, inside) else {
         return refusal(Errno::ENOMEM);
     };
     let Some(checked) = found else {

@@ -42,29 +42,26 @@ pub extern "C" fn jw_engine_new(alloc: Global, engine: &mut Handle) -> i64
 pub extern "C" fn jw_engine_free(alloc: Global, engine: &mut Handle)
     ensures { engine.new.shown ≡ None }
 {
-    drop(engine.take(alloc));
+    *engine = Handle::none(alloc);
 }
 
 /// Does one event, if there is an engine.
-pub(crate) fn reply_to(alloc: Global, engine: &mut Handle, event: &Event) -> Option<Reply>
+pub(crate) fn reply_to(engine: &mut Handle, event: &Event) -> Option<Reply>
     ensures done { IfSome result (λ r. Does engine.old.shown event.now r engine.new.shown) }
     ensures none { IfNone result (engine.old.shown ≡ None) }
     ensures still { IfNone result (engine.new.shown ≡ None) }
 {
-    let mut inside = engine.take(alloc)?;
-    let reply = inside.step(event);
-    *engine = Handle::of(inside);
-    Some(reply)
+    Some(engine.as_mut()?.step(event))
 }
 
 /// Does one event, and answers the number of its reply.
 // Inlined, as the next one is, so that an event is made where it is read: to move one costs more
 // than a call.
 #[inline(always)]
-pub(crate) fn call(alloc: Global, engine: &mut Handle, event: &Event) -> i64
+pub(crate) fn call(engine: &mut Handle, event: &Event) -> i64
     ensures { Calls engine.old.shown event.now result engine.new.shown }
 {
-    match reply_to(alloc, engine, event) {
+    match reply_to(engine, event) {
         Some(reply) => code(&reply),
         None => NO_ENGINE,
     }
@@ -72,8 +69,8 @@ pub(crate) fn call(alloc: Global, engine: &mut Handle, event: &Event) -> i64
 
 /// Does a step of a process, and answers the number of its reply.
 #[inline(always)]
-pub(crate) fn call_of(alloc: Global, engine: &mut Handle, pid: u32, step: Step) -> i64
+pub(crate) fn call_of(engine: &mut Handle, pid: u32, step: Step) -> i64
     ensures { Calls engine.old.shown (Event.Proc pid step) result engine.new.shown }
 {
-    call(alloc, engine, &Event::Proc(Pid(pid), step))
+    call(engine, &Event::Proc(Pid(pid), step))
 }

@@ -9,6 +9,7 @@ mod answers;
 mod audit;
 mod engine;
 mod handle;
+mod lends;
 mod messages;
 mod passes;
 mod processes;

@@ -46,14 +46,12 @@ pub extern "C" fn jw_send(
     ensures { Calls engine.old.shown
         (Event.Proc pid (Step.Send fd bytes.now fds.now)) result engine.new.shown }
 {
-    let Some(mut inside) = engine.take(alloc) else {
+    let Some(inside) = engine.as_mut() else {
         return NO_ENGINE;
     };
     let mut first = ArrayVec::new();
     push_first(fds, &mut first);
-    let outcome = inside.send(Pid(pid), Fd(fd), bytes, first.as_slice());
-    *engine = Handle::of(inside);
-    match outcome {
+    match inside.send(Pid(pid), Fd(fd), bytes, first.as_slice()) {
         Ok(count) => i64::from(count),
         Err(error) => refusal(error),
     }
@@ -99,7 +97,7 @@ pub extern "C" fn jw_recv(
         max_bytes: room(bytes.len()),
         max_fds: as_u32(fds.len()),
     };
-    receive(alloc, engine, &Event::Proc(Pid(pid), step), bytes, fds, out)
+    receive(engine, &Event::Proc(Pid(pid), step), bytes, fds, out)
 }
 
 /// Writes and answers what jw_recv would, but takes nothing from the queue (recvmsg(2), MSG_PEEK).
@@ -128,12 +126,11 @@ pub extern "C" fn jw_peek(
         max_bytes: room(bytes.len()),
         max_fds: as_u32(fds.len()),
     };
-    receive(alloc, engine, &Event::Proc(Pid(pid), step), bytes, fds, out)
+    receive(engine, &Event::Proc(Pid(pid), step), bytes, fds, out)
 }
 
 /// Does this receive or peek, and writes what it got.
 fn receive(
-    alloc: Global,
     engine: &mut Handle,
     event: &Event,
     bytes: &mut [u8],
@@ -143,7 +140,7 @@ fn receive(
     ensures { CallsInto engine.old.shown event.now received_written
         (bytes.old, fds.old, out.old) result (bytes.new, fds.new, out.new) engine.new.shown }
 {
-    let Some(reply) = reply_to(alloc, engine, event) else {
+    let Some(reply) = reply_to(engine, event) else {
         return NO_ENGINE;
     };
     write_received(&reply, bytes, fds, out);

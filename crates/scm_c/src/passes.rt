@@ -29,7 +29,7 @@ pub extern "C" fn jw_begin(alloc: Global, engine: &mut Handle, pass: &mut u64) -
     ensures { CallsInto engine.old.shown Event.Begin begun_written pass.old result pass.new
         engine.new.shown }
 {
-    let Some(reply) = reply_to(alloc, engine, &Event::Begin) else {
+    let Some(reply) = reply_to(engine, &Event::Begin) else {
         return NO_ENGINE;
     };
     if let Reply::Started(number) = &reply {
@@ -53,7 +53,7 @@ pub extern "C" fn jw_slice(
     ensures { CallsInto engine.old.shown
         (Event.Slice budget) finished_written out.old result out.new engine.new.shown }
 {
-    collect(alloc, engine, &Event::Slice(budget), out)
+    collect(engine, &Event::Slice(budget), out)
 }
 
 /// Does a whole pass at once: reclaims what no process can reach. Writes the number of the pass,
@@ -66,15 +66,15 @@ pub extern "C" fn jw_pass(alloc: Global, engine: &mut Handle, out: &mut CFinishe
     ensures { CallsInto engine.old.shown Event.Pass finished_written out.old result out.new
         engine.new.shown }
 {
-    collect(alloc, engine, &Event::Pass, out)
+    collect(engine, &Event::Pass, out)
 }
 
 /// Does this event of the collector, and writes what it says of a pass that is over.
-fn collect(alloc: Global, engine: &mut Handle, event: &Event, out: &mut CFinished) -> i64
+fn collect(engine: &mut Handle, event: &Event, out: &mut CFinished) -> i64
     ensures { CallsInto engine.old.shown event.now finished_written out.old result out.new
         engine.new.shown }
 {
-    let Some(reply) = reply_to(alloc, engine, event) else {
+    let Some(reply) = reply_to(engine, event) else {
         return NO_ENGINE;
     };
     write_finished(&reply, out);

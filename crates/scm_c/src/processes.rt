@@ -29,7 +29,7 @@ pub extern "C" fn jw_spawn(
         nofile,
         privileged,
     };
-    call(alloc, engine, &event)
+    call(engine, &event)
 }
 
 /// Opens a plain file (open(2)). Answers its descriptor, the lowest that is free.
@@ -40,12 +40,10 @@ pub extern "C" fn jw_spawn(
 pub extern "C" fn jw_open(alloc: Global, engine: &mut Handle, pid: u32) -> i64
     ensures { Calls engine.old.shown (Event.Proc pid Step.Open) result engine.new.shown }
 {
-    let Some(mut inside) = engine.take(alloc) else {
+    let Some(inside) = engine.as_mut() else {
         return NO_ENGINE;
     };
-    let outcome = inside.open(Pid(pid));
-    *engine = Handle::of(inside);
-    match outcome {
+    match inside.open(Pid(pid)) {
         Ok(fd) => i64::from(fd.0),
         Err(error) => refusal(error),
     }
@@ -59,7 +57,7 @@ pub extern "C" fn jw_open(alloc: Global, engine: &mut Handle, pid: u32) -> i64
 pub extern "C" fn jw_dup(alloc: Global, engine: &mut Handle, pid: u32, fd: u32) -> i64
     ensures { Calls engine.old.shown (Event.Proc pid (Step.Dup fd)) result engine.new.shown }
 {
-    call_of(alloc, engine, pid, Step::Dup(Fd(fd)))
+    call_of(engine, pid, Step::Dup(Fd(fd)))
 }
 
 /// Duplicates a descriptor at a given number, in place of what that number had (dup2(2)). Answers
@@ -71,7 +69,7 @@ pub extern "C" fn jw_dup(alloc: Global, engine: &mut Handle, pid: u32, fd: u32) 
 pub extern "C" fn jw_dup2(alloc: Global, engine: &mut Handle, pid: u32, from: u32, to: u32) -> i64
     ensures { Calls engine.old.shown (Event.Proc pid (Step.Dup2 from to)) result engine.new.shown }
 {
-    call_of(alloc, engine, pid, Step::Dup2(Fd(from), Fd(to)))
+    call_of(engine, pid, Step::Dup2(Fd(from), Fd(to)))
 }
 
 /// Closes a descriptor (close(2)). Answers 0.
@@ -81,12 +79,10 @@ pub extern "C" fn jw_dup2(alloc: Global, engine: &mut Handle, pid: u32, from: u3
 pub extern "C" fn jw_close(alloc: Global, engine: &mut Handle, pid: u32, fd: u32) -> i64
     ensures { Calls engine.old.shown (Event.Proc pid (Step.Close fd)) result engine.new.shown }
 {
-    let Some(mut inside) = engine.take(alloc) else {
+    let Some(inside) = engine.as_mut() else {
         return NO_ENGINE;
     };
-    let outcome = inside.close(Pid(pid), Fd(fd));
-    *engine = Handle::of(inside);
-    answer(outcome)
+    answer(inside.close(Pid(pid), Fd(fd)))
 }
 
 /// Makes a child of the process, with a copy of its table (fork(2)). Answers the child's pid.
@@ -97,7 +93,7 @@ pub extern "C" fn jw_close(alloc: Global, engine: &mut Handle, pid: u32, fd: u32
 pub extern "C" fn jw_fork(alloc: Global, engine: &mut Handle, pid: u32) -> i64
     ensures { Calls engine.old.shown (Event.Proc pid Step.Fork) result engine.new.shown }
 {
-    call_of(alloc, engine, pid, Step::Fork)
+    call_of(engine, pid, Step::Fork)
 }
 
 /// Changes the limit on the process's descriptors, to a lower or a higher one (setrlimit(2),
@@ -110,7 +106,7 @@ pub extern "C" fn jw_fork(alloc: Global, engine: &mut Handle, pid: u32) -> i64
 pub extern "C" fn jw_limit(alloc: Global, engine: &mut Handle, pid: u32, nofile: u32) -> i64
     ensures { Calls engine.old.shown (Event.Proc pid (Step.Limit nofile)) result engine.new.shown }
 {
-    call_of(alloc, engine, pid, Step::Limit(nofile))
+    call_of(engine, pid, Step::Limit(nofile))
 }
 
 /// Ends the process and closes its descriptors (_exit(2)). Answers 0.
@@ -120,5 +116,5 @@ pub extern "C" fn jw_limit(alloc: Global, engine: &mut Handle, pid: u32, nofile:
 pub extern "C" fn jw_exit(alloc: Global, engine: &mut Handle, pid: u32) -> i64
     ensures { Calls engine.old.shown (Event.Proc pid Step.Exit) result engine.new.shown }
 {
-    call_of(alloc, engine, pid, Step::Exit)
+    call_of(engine, pid, Step::Exit)
 }

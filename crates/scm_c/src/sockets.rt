@@ -46,7 +46,7 @@ pub extern "C" fn jw_pair(
         return refusal(Errno::EINVAL);
     };
     let event = Event::Proc(Pid(pid), Step::Pair(kind));
-    let Some(reply) = reply_to(alloc, engine, &event) else {
+    let Some(reply) = reply_to(engine, &event) else {
         return NO_ENGINE;
     };
     write_pair(&reply, out);
@@ -89,7 +89,7 @@ pub extern "C" fn jw_socket(alloc: Global, engine: &mut Handle, pid: u32, kind: 
         (Refuses engine.old.shown Errno.EINVAL result engine.new.shown) }
 {
     match type_named(kind) {
-        Some(kind) => call_of(alloc, engine, pid, Step::Socket(kind)),
+        Some(kind) => call_of(engine, pid, Step::Socket(kind)),
         None => refusal(Errno::EINVAL),
     }
 }
@@ -104,12 +104,10 @@ pub extern "C" fn jw_bind(alloc: Global, engine: &mut Handle, pid: u32, fd: u32,
     ensures { Calls engine.old.shown (Event.Proc pid (Step.Bind fd name.now)) result
         engine.new.shown }
 {
-    let Some(mut inside) = engine.take(alloc) else {
+    let Some(inside) = engine.as_mut() else {
         return NO_ENGINE;
     };
-    let outcome = inside.bind(Pid(pid), Fd(fd), name);
-    *engine = Handle::of(inside);
-    answer(outcome)
+    answer(inside.bind(Pid(pid), Fd(fd), name))
 }
 
 /// Lets a socket with a name wait for connections, with room for 1 to 128 (listen(2)). Answers 0.
@@ -131,7 +129,7 @@ pub extern "C" fn jw_listen(
         on: Fd(fd),
         backlog,
     };
-    call_of(alloc, engine, pid, step)
+    call_of(engine, pid, step)
 }
 
 /// Connects a socket to the listener of this name, without waiting (connect(2)). The socket is
@@ -151,12 +149,10 @@ pub extern "C" fn jw_connect(
     ensures { Calls engine.old.shown (Event.Proc pid (Step.Connect fd name.now)) result
         engine.new.shown }
 {
-    let Some(mut inside) = engine.take(alloc) else {
+    let Some(inside) = engine.as_mut() else {
         return NO_ENGINE;
     };
-    let outcome = inside.connect(Pid(pid), Fd(fd), name);
-    *engine = Handle::of(inside);
-    answer(outcome)
+    answer(inside.connect(Pid(pid), Fd(fd), name))
 }
 
 /// Accepts the connection that waits longest at a listener (accept(2)). Answers the new socket's
@@ -168,5 +164,5 @@ pub extern "C" fn jw_connect(
 pub extern "C" fn jw_accept(alloc: Global, engine: &mut Handle, pid: u32, fd: u32) -> i64
     ensures { Calls engine.old.shown (Event.Proc pid (Step.Accept fd)) result engine.new.shown }
 {
-    call_of(alloc, engine, pid, Step::Accept(Fd(fd)))
+    call_of(engine, pid, Step::Accept(Fd(fd)))
 }

@@ -25,14 +25,13 @@ pub extern "C" fn jw_ino(
     ensures value { Tells engine.old.shown
         (λ m n. n ≡ unwrap_or (table_at m.world pid fd) 0) ino.old result ino.new }
 {
-    let Some(inside) = engine.take(alloc) else {
+    let Some(inside) = engine.as_mut() else {
         return NO_ENGINE;
     };
     *ino = match inside.ino_at(Pid(pid), Fd(fd)) {
         Some(file) => file.0,
         None => 0,
     };
-    *engine = Handle::of(inside);
     0
 }
 
@@ -53,12 +52,10 @@ pub extern "C" fn jw_next_fd(
     ensures value { Asks engine.old.shown
         (λ m r n. IsNextOpen m.world pid from ino.old r n) ino.old result ino.new }
 {
-    let Some(inside) = engine.take(alloc) else {
+    let Some(inside) = engine.as_mut() else {
         return NO_ENGINE;
     };
-    let next = inside.next_open(Pid(pid), Fd(from));
-    *engine = Handle::of(inside);
-    match next {
+    match inside.next_open(Pid(pid), Fd(from)) {
         Some((fd, file)) => {
             *ino = file.ino().0;
             i64::from(fd.0)
@@ -98,12 +95,10 @@ pub extern "C" fn jw_poll(
     ensures value { Asks engine.old.shown
         (λ m r y. IsPolled m.world pid fd out.old r y) out.old result out.new }
 {
-    let Some(inside) = engine.take(alloc) else {
+    let Some(inside) = engine.as_mut() else {
         return NO_ENGINE;
     };
-    let polled = inside.poll(Pid(pid), Fd(fd));
-    *engine = Handle::of(inside);
-    match polled {
+    match inside.poll(Pid(pid), Fd(fd)) {
         Ok(ready) => {
             *out = CReady {
                 readable: ready.readable,

@@ -20,18 +20,16 @@ pub extern "C" fn jw_name(alloc: Global, engine: &mut Handle, ino: u64, name: &m
     ensures value { Asks engine.old.shown
         (λ m r y. IsNameWritten m.world ino name.old r y) name.old result name.new }
 {
-    let Some(inside) = engine.take(alloc) else {
+    let Some(inside) = engine.as_mut() else {
         return NO_ENGINE;
     };
-    let length = match inside.name(Ino(ino)) {
+    match inside.name(Ino(ino)) {
         Some(found) => {
             write_bytes(found, name);
             found.len() as i64
         }
         None => 0,
-    };
-    *engine = Handle::of(inside);
-    length
+    }
 }
 
 /// Writes a picture of all files, with what refers to each, in the language of Graphviz; garbage is
@@ -45,12 +43,10 @@ pub extern "C" fn jw_graph(alloc: Global, engine: &mut Handle, text: &mut [u8]) 
     ensures value { Asks engine.old.shown
         (λ m r y. IsPictureWritten m.world text.old r y) text.old result text.new }
 {
-    let Some(inside) = engine.take(alloc) else {
+    let Some(inside) = engine.as_mut() else {
         return NO_ENGINE;
     };
-    let drawn = graph(alloc, &*inside);
-    *engine = Handle::of(inside);
-    let Ok(drawn) = drawn else {
+    let Ok(drawn) = graph(alloc, inside) else {
         return refusal(Errno::ENOMEM);
     };
     write_bytes(drawn.as_slice(), text);

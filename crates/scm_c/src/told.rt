@@ -21,12 +21,10 @@ use std::alloc::Global;
 pub extern "C" fn jw_tell_released(alloc: Global, engine: &mut Handle) -> i64
     ensures { MayAlter engine.old.shown tells_released result engine.new.shown }
 {
-    let Some(mut inside) = engine.take(alloc) else {
+    let Some(inside) = engine.as_mut() else {
         return NO_ENGINE;
     };
-    let told = inside.tell_released();
-    *engine = Handle::of(inside);
-    match told {
+    match inside.tell_released() {
         Ok(()) => 0,
         Err(_) => refusal(Errno::ENOMEM),
     }
@@ -42,12 +40,10 @@ pub extern "C" fn jw_tell_released(alloc: Global, engine: &mut Handle) -> i64
 pub extern "C" fn jw_tell_changed(alloc: Global, engine: &mut Handle) -> i64
     ensures { MayAlter engine.old.shown tells_changed result engine.new.shown }
 {
-    let Some(mut inside) = engine.take(alloc) else {
+    let Some(inside) = engine.as_mut() else {
         return NO_ENGINE;
     };
-    let told = inside.tell_changed();
-    *engine = Handle::of(inside);
-    match told {
+    match inside.tell_changed() {
         Ok(()) => 0,
         Err(_) => refusal(Errno::ENOMEM),
     }
@@ -63,14 +59,12 @@ pub extern "C" fn jw_released(alloc: Global, engine: &mut Handle, inos: &mut [u6
     ensures value { Asks engine.old.shown
         (λ m r y. IsReleasedWritten m.world m.since inos.old r y) inos.old result inos.new }
 {
-    let Some(inside) = engine.take(alloc) else {
+    let Some(inside) = engine.as_mut() else {
         return NO_ENGINE;
     };
     let told = inside.released_files();
     write_inos(told, inos);
-    let count = told.len() as i64;
-    *engine = Handle::of(inside);
-    count
+    told.len() as i64
 }
 
 /// Writes the inode numbers of the live sockets whose readiness may have changed since the lists
@@ -85,14 +79,12 @@ pub extern "C" fn jw_changed(alloc: Global, engine: &mut Handle, inos: &mut [u64
     ensures value { Asks engine.old.shown
         (λ m r y. IsChangedWritten m.world m.since inos.old r y) inos.old result inos.new }
 {
-    let Some(inside) = engine.take(alloc) else {
+    let Some(inside) = engine.as_mut() else {
         return NO_ENGINE;
     };
     let told = inside.changed_sockets();
     write_files(told, inos);
-    let count = told.len() as i64;
-    *engine = Handle::of(inside);
-    count
+    told.len() as i64
 }
 
 /// Empties both lists. It needs no memory. Answers 0.
@@ -100,11 +92,10 @@ pub extern "C" fn jw_changed(alloc: Global, engine: &mut Handle, inos: &mut [u64
 pub extern "C" fn jw_clear_told(alloc: Global, engine: &mut Handle) -> i64
     ensures { Alters engine.old.shown cleared result engine.new.shown }
 {
-    let Some(mut inside) = engine.take(alloc) else {
+    let Some(inside) = engine.as_mut() else {
         return NO_ENGINE;
     };
     inside.clear_told();
-    *engine = Handle::of(inside);
     0
 }
 

@@ -21,11 +21,10 @@ pub extern "C" fn jw_refs(alloc: Global, engine: &mut Handle, ino: u64, count: &
     ensures value { Tells engine.old.shown
         (λ m n. n ≡ refs m.world ino) count.old result count.new }
 {
-    let Some(inside) = engine.take(alloc) else {
+    let Some(inside) = engine.as_mut() else {
         return NO_ENGINE;
     };
     *count = inside.refs(Ino(ino));
-    *engine = Handle::of(inside);
     0
 }
 
@@ -37,11 +36,10 @@ pub extern "C" fn jw_inflight(alloc: Global, engine: &mut Handle, ino: u64, coun
     ensures value { Tells engine.old.shown
         (λ m n. n ≡ inflight m.world ino) count.old result count.new }
 {
-    let Some(inside) = engine.take(alloc) else {
+    let Some(inside) = engine.as_mut() else {
         return NO_ENGINE;
     };
     *count = inside.inflight(Ino(ino));
-    *engine = Handle::of(inside);
     0
 }
 
@@ -53,11 +51,10 @@ pub extern "C" fn jw_charged(alloc: Global, engine: &mut Handle, uid: u32, count
     ensures value { Tells engine.old.shown
         (λ m n. n ≡ charged m.world uid) count.old result count.new }
 {
-    let Some(inside) = engine.take(alloc) else {
+    let Some(inside) = engine.as_mut() else {
         return NO_ENGINE;
     };
     *count = inside.charged(Uid(uid));
-    *engine = Handle::of(inside);
     0
 }
 
@@ -67,11 +64,10 @@ pub extern "C" fn jw_total(alloc: Global, engine: &mut Handle, count: &mut u64) 
     ensures same { engine.new.shown ≡ engine.old.shown }
     ensures value { Tells engine.old.shown (λ m n. n ≡ total m.world) count.old result count.new }
 {
-    let Some(inside) = engine.take(alloc) else {
+    let Some(inside) = engine.as_mut() else {
         return NO_ENGINE;
     };
     *count = inside.total();
-    *engine = Handle::of(inside);
     0
 }
 
@@ -82,11 +78,10 @@ pub extern "C" fn jw_live(alloc: Global, engine: &mut Handle, count: &mut u64) -
     ensures value { Tells engine.old.shown
         (λ m n. n ≡ map.len m.world.files) count.old result count.new }
 {
-    let Some(inside) = engine.take(alloc) else {
+    let Some(inside) = engine.as_mut() else {
         return NO_ENGINE;
     };
     *count = inside.live() as u64;
-    *engine = Handle::of(inside);
     0
 }
 
@@ -98,14 +93,13 @@ pub extern "C" fn jw_next_after(alloc: Global, engine: &mut Handle, ino: u64, ne
     ensures value { Tells engine.old.shown
         (λ m n. IsNextLive m.world ino n) next.old result next.new }
 {
-    let Some(inside) = engine.take(alloc) else {
+    let Some(inside) = engine.as_mut() else {
         return NO_ENGINE;
     };
     *next = match inside.next_after(Ino(ino)) {
         Some(found) => found.0,
         None => 0,
     };
-    *engine = Handle::of(inside);
     0
 }
 
@@ -116,12 +110,10 @@ pub extern "C" fn jw_next_pid(alloc: Global, engine: &mut Handle) -> i64
     ensures same { engine.new.shown ≡ engine.old.shown }
     ensures value { TellsNumber engine.old.shown (λ m. pos m.world.next_pid) result }
 {
-    let Some(inside) = engine.take(alloc) else {
+    let Some(inside) = engine.as_mut() else {
         return NO_ENGINE;
     };
-    let next = i64::from(inside.next_pid().0);
-    *engine = Handle::of(inside);
-    next
+    i64::from(inside.next_pid().0)
 }
 
 /// A file. All fields but the kind are 0 where it is no socket.
@@ -147,14 +139,13 @@ pub extern "C" fn jw_file(alloc: Global, engine: &mut Handle, ino: u64, out: &mu
     ensures value { Tells engine.old.shown
         (λ m f. f ≡ file_of (shown_of (map.get m.world.files ino))) out.old result out.new }
 {
-    let Some(inside) = engine.take(alloc) else {
+    let Some(inside) = engine.as_mut() else {
         return NO_ENGINE;
     };
     *out = match inside.file(Ino(ino)) {
         Some(info) => file_of(&info),
         None => file_of_kind(0),
     };
-    *engine = Handle::of(inside);
     0
 }
 

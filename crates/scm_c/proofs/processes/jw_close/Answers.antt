@@ -1,20 +1,11 @@
-use Rattle.std.proofs.Common.{rules, ◌≡◌, ◌∙◌, inl, subst, sym}
+use Rattle.std.proofs.Common.{rules, ◌≡◌, ◌∙◌}
 use mir.Syntax.{w64}
 use mir.Val.{to_z, of_z}
-use Rattle.af_base.specs.Pass.{Machine}
-use Rattle.af_base.specs.Run.{Step}
-use Rattle.af_base.specs.declared.events.Event.TheVariants as event
 use Rattle.af_base.specs.declared.events.Step.TheVariants as step
-use Rattle.scm_c.proofs.Outcomes.{outcome-step}
+use Rattle.scm_c.proofs.Outcomes.{concludes}
 use Rattle.scm_c.proofs.processes.jw_close.Goals as goal
 
 pub returns : goal.returns
 returns c =
-    let old = c.in-Some.inside.value in
-    let new = c.close-outcome.new.self in
-    let does = step.Close c.args.fd in
-    let entered : c.deref_mut.result.now ≡ old = search rules in
-    let came = outcome-step c.deref_mut.result.now new c.args.pid does c.close-outcome.result c.close-outcome.ensures.done c.close-outcome.ensures.refused in
-    let did : Step old (event.Proc c.args.pid does) came.0 new = subst (λ (m : Machine). Step m (event.Proc c.args.pid does) came.0 new) entered came.1 in
-    let same : c.answer.result ≡ to_z w64 (of_z w64 c.answer.result) = search rules in
-    inl (came.0, (old, new, search rules, search rules, did), sym same ∙ c.answer.ensures ∙ came.2)
+    let answers : to_z w64 (of_z w64 c.answer.result) ≡ c.answer.result = search rules in
+    concludes c.args.engine.now.shown c.in-Some.inside.now c.close.new.self c.in-Some.ensures.value c.args.pid (step.Close c.args.fd) _ c.close.result c.close.ensures.done c.close.ensures.refused (answers ∙ c.answer.ensures)
