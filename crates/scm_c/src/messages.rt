@@ -97,7 +97,7 @@ pub extern "C" fn jw_recv(
         max_bytes: room(bytes.len()),
         max_fds: as_u32(fds.len()),
     };
-    receive(engine, &Event::Proc(Pid(pid), step), bytes, fds, out)
+    receive(engine, pid, step, bytes, fds, out)
 }
 
 /// Writes and answers what jw_recv would, but takes nothing from the queue (recvmsg(2), MSG_PEEK).
@@ -126,21 +126,22 @@ pub extern "C" fn jw_peek(
         max_bytes: room(bytes.len()),
         max_fds: as_u32(fds.len()),
     };
-    receive(engine, &Event::Proc(Pid(pid), step), bytes, fds, out)
+    receive(engine, pid, step, bytes, fds, out)
 }
 
-/// Does this receive or peek, and writes what it got.
+/// Does this receive or peek of a process, and writes what it got.
 fn receive(
     engine: &mut Handle,
-    event: &Event,
+    pid: u32,
+    step: Step,
     bytes: &mut [u8],
     fds: &mut [u32],
     out: &mut CReceived,
 ) -> i64
-    ensures { CallsInto engine.old.shown event.now received_written
+    ensures { CallsInto engine.old.shown (Event.Proc pid step) received_written
         (bytes.old, fds.old, out.old) result (bytes.new, fds.new, out.new) engine.new.shown }
 {
-    let Some(reply) = reply_to(engine, event) else {
+    let Some(reply) = reply_to(engine, &Event::Proc(Pid(pid), step)) else {
         return NO_ENGINE;
     };
     write_received(&reply, bytes, fds, out);
