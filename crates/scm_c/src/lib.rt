@@ -2,6 +2,7 @@
 //!
 //! C holds a word, which is null or refers to an engine (`Handle`), and gives its address to each
 //! call. A call does one event, or reads the engine; it answers 0 or more, or a negative error.
+//! Each names the C heap (`alloc`), for which C passes nothing.
 //! `tools/bindings` writes `include/jaywardrobe.h` from these modules, doc comments included.
 #![tactic(auto)]
 
