@@ -19,7 +19,7 @@ SECTIONS = {
     "Events": ["af_steps/src"],
     "Views": ["af_steps/src"],
     "Freed files and changed readiness": ["af_steps/src"],
-    "A value behind each plain file": ["af_owned/src"],
+    "A value behind each plain file": ["jaywardrobe/src/owned.rt"],
     "An engine for many threads": ["af_layer/src/shared.rt"],
     "A log of all calls": ["af_layer/src/layer.rt", "af_layer/src/book.rt", "af_layer/src/seat.rt"],
 }

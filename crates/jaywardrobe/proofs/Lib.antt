@@ -1,3 +1,6 @@
+-- That each value stays where its file is.
+pub mod PlainFiles
+pub mod KeptValues
 -- Lemmas on the machine's words: of look-ups, changes and settling, of tests that do not fit, of
 -- listings, and of what threads may share.
 pub use Rattle.af_base.proofs.Lookups

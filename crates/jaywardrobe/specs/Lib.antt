@@ -1,4 +1,6 @@
--- The terms of the contracts: the machine, its events, and the reports.
+-- The terms of the contracts: the machine, its events, values behind plain files, and reports.
+pub mod Lending
+pub mod OwnedView
 pub mod Types
 pub use Rattle.af_base.specs.World
 pub use Rattle.af_base.specs.Places
@@ -26,8 +28,6 @@ pub use Rattle.af_layer.specs.Log
 pub use Rattle.af_layer.specs.Seats
 pub use Rattle.af_layer.specs.Shared
 pub use Rattle.af_layer.specs.Taken
-pub use Rattle.af_owned.specs.Lending
-pub use Rattle.af_owned.specs.OwnedView
 pub use Rattle.af_report.specs.Check
 pub use Rattle.af_report.specs.Graph
 pub use Rattle.af_report.specs.Totals

@@ -31,6 +31,7 @@
 #![tactic(auto)]
 
 pub mod layer;
+mod owned;
 pub mod report;
 
 pub use af_base::errno::Errno;
@@ -43,5 +44,5 @@ pub use af_base::listing::{
 };
 pub use af_base::ready::Ready;
 pub use af_layer::Shared;
-pub use af_owned::Owned;
 pub use af_steps::{Engine, FileInfo, Finished, Progress, Received, RunStopped};
+pub use owned::Owned;

@@ -1,3 +1,0 @@
--- That each value stays where its file is.
-pub mod PlainFiles
-pub mod KeptValues

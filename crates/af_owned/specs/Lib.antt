@@ -1,3 +1,0 @@
--- The values of plain files.
-pub mod Lending
-pub mod OwnedView

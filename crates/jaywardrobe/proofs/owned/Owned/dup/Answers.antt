@@ -1,0 +1,13 @@
+use Rattle.std.proofs.Common.{rules, refl}
+use Rattle.af_base.specs.declared.events.Reply.TheVariants as reply
+use Rattle.af_base.specs.declared.events.Step.TheVariants as step
+use Rattle.jaywardrobe.proofs.KeptValues.{owned-call}
+use Rattle.jaywardrobe.proofs.owned.Owned.dup.Goals as goal
+
+pub invariant_of-self : goal.invariant_of-self
+invariant_of-self g c =
+    let a = c.self.inside in
+    owned-call a.engine c.dup.new.self a.values.values a.values.last c.self.invariant c.args.pid (step.Dup c.args.from) refl c.dup.result reply.Fd c.dup.ensures.done c.dup.ensures.refused
+
+pub returns-clause-done : goal.returns-clause-done
+returns-clause-done g c = search rules

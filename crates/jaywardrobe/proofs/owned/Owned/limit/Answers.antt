@@ -1,0 +1,13 @@
+use Rattle.std.proofs.Common.{rules, refl}
+use Rattle.af_base.specs.declared.events.Reply.TheVariants as reply
+use Rattle.af_base.specs.declared.events.Step.TheVariants as step
+use Rattle.jaywardrobe.proofs.KeptValues.{owned-call}
+use Rattle.jaywardrobe.proofs.owned.Owned.limit.Goals as goal
+
+pub invariant_of-self : goal.invariant_of-self
+invariant_of-self g c =
+    let a = c.self.inside in
+    owned-call a.engine c.limit.new.self a.values.values a.values.last c.self.invariant c.args.pid (step.Limit c.args.nofile) refl c.limit.result (λ _. reply.Ok) c.limit.ensures.done c.limit.ensures.refused
+
+pub returns-clause-done : goal.returns-clause-done
+returns-clause-done g c = search rules

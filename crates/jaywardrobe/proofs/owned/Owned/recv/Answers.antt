@@ -1,0 +1,13 @@
+use Rattle.std.proofs.Common.{rules, refl}
+use Rattle.af_base.specs.declared.events.Step.TheVariants as step
+use Rattle.af_steps.specs.Outcome.{got_reply}
+use Rattle.jaywardrobe.proofs.KeptValues.{owned-call}
+use Rattle.jaywardrobe.proofs.owned.Owned.recv.Goals as goal
+
+pub invariant_of-self : goal.invariant_of-self
+invariant_of-self g c =
+    let a = c.self.inside in
+    owned-call a.engine c.recv.new.self a.values.values a.values.last c.self.invariant c.args.pid (step.Recv c.args.on c.args.max_bytes c.args.max_fds) refl c.recv.result got_reply c.recv.ensures.done c.recv.ensures.refused
+
+pub returns-clause-done : goal.returns-clause-done
+returns-clause-done g c = search rules

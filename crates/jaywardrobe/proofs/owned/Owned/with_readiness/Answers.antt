@@ -1,0 +1,19 @@
+use Rattle.std.proofs.Common.{◌∙◌, true, ap, subst, sym}
+use Rattle.std.specs.FinMap as map
+use Rattle.af_base.specs.Pass.{Machine}
+use Rattle.jaywardrobe.specs.OwnedView.{AreOwned}
+use Rattle.jaywardrobe.proofs.KeptValues.{owned-new}
+use Rattle.jaywardrobe.proofs.owned.Owned.with_readiness.Goals as goal
+
+pub invariant_of-result : goal.invariant_of-result
+invariant_of-result g c =
+    let n = c.tell_changed.new.self in
+    let asked = c.in_ok-tell_released.ensures.ok ∙ ap (λ (m : Machine). record m { since = record { changed = m.since.changed; released = true; files = m.world.files; next = m.world.next_ino } }) c.in_ok-engine.ensures in
+    let is = c.in_ok-tell_changed.ensures.ok ∙ ap (λ (m : Machine). record m { since = record { changed = true; released = m.since.released; files = m.world.files; next = m.world.next_ino } }) asked in
+    subst (λ l. AreOwned n c.new-2.result.values l) (sym c.new-2.ensures.last)
+    (subst (λ vs. AreOwned n vs 0) (sym c.new-2.ensures.values) (subst (λ (m : Machine). AreOwned m map.empty 0) (sym is) (owned-new true)))
+
+pub returns-clause-machine : goal.returns-clause-machine
+returns-clause-machine g c =
+    let keep = λ (m : Machine). record m { since = c.tell_changed.new.self.since } in
+    ap keep c.in_ok-tell_changed.ensures.ok ∙ ap keep c.in_ok-tell_released.ensures.ok ∙ ap keep c.in_ok-engine.ensures
