@@ -83,21 +83,12 @@ fn shade_attached(holdings: &mut Holdings, file: &FileRef)
     loop {
         let held = attached_from(holdings, file, from);
         let held = held.as_slice();
-        shade_some(holdings, held);
+        shade_all(&mut holdings.files, held);
         if held.len() < BATCH {
             return;
         }
         from += BATCH;
     }
-}
-
-/// Marks these files.
-#[inline(always)]
-fn shade_some(holdings: &mut Holdings, held: &[FileRef])
-    ensures { holdings.new
-        ≡ record holdings.old { marks = shaded_all held.now holdings.old.marks } }
-{
-    shade_all(&mut holdings.files, held);
 }
 
 /// Marks the embryos of the file's backlog.
