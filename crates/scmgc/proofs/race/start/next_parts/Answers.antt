@@ -1,0 +1,10 @@
+-- The next source makes its part behind the parts before it.
+use Rattle.std.proofs.Common.{arith}
+use Rattle.std.proofs.lemmas.Grind.{common_steps}
+use Rattle.scmgc.proofs.race.start.next_parts.Goals as goal
+
+pub loop-source-preserved : goal.loop-source-preserved
+loop-source-preserved c = grind (arith, common_steps)
+
+pub returns : goal.returns
+returns c = grind (arith, common_steps)
