@@ -4,7 +4,7 @@ use Rattle.std.specs.Prelude.{Option, Some, None, Result, Ok, Err, IfErr, IfNone
 use Rattle.std.proofs.lemmas.Slice.Eq.{bytes_eq-Decides}
 use denote.Ref.{Bor}
 use Rattle.clap.specs.Words.{Row, Text, subcommand_of}
-use Rattle.scmgc.specs.Task.{IsInRange, IsRace, Names, StandsFor, whole_app}
+use Rattle.scmgc.specs.Task.{IsRace, Names, StandsFor, whole_app}
 use Rattle.scmgc.specs.declared.task.Task.{Task}
 use Rattle.scmgc.specs.declared.task.Task.TheVariants.{Play, Race, Run}
 
@@ -44,21 +44,6 @@ run_not_play words file run play =
 pub race_not_play : (words : List Text) (workers steps seed budget checkpoint : ℕ) (file : Option (Bor (List ℕ))) → Names words (Race workers steps seed budget checkpoint) → Names words (Play file) → ⊥
 race_not_play words workers steps seed budget checkpoint file race play =
     let bad : 114 ≡ 112 = ap (λ name. get_or name 0 0) (one_task words (Race workers steps seed budget checkpoint) (Play file) race play) in absurd (omega (arith, bad))
-
--- The numbers of a race that is asked for lie in their ranges.
-pub in_range : (found : Option (Text × List Row)) → (task : Task) → StandsFor found task → IsInRange task
-in_range None task stands = absurd stands
-in_range (Some found) Run stands = tt
-in_range (Some found) (Play file) stands = tt
-in_range (Some found) (Race workers steps seed budget checkpoint) stands =
-    let race = stands.1 in (
-      race.workers_is.least_is,
-      race.workers_is.most_is,
-      race.steps_is.least_is,
-      race.steps_is.most_is,
-      race.budget_is.least_is,
-      race.budget_is.most_is,
-    )
 
 -- A text of no run, no play and no race is of no task.
 pub no_task : (found : Option (Text × List Row)) (name : Text) (rows : List Row) → found ≡ Some (name, rows) → (name ≡ codes "run" → ⊥) → (name ≡ codes "play" → ⊥)
