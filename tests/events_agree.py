@@ -6,7 +6,7 @@ in order. Compared with it are
 
 - the rows of the definition (crates/af_base/specs), which decides, and those of docs/DEFINITIONS.md;
 - the doc comments of the calls (crates/af_steps/src), the comments of include/jaywardrobe.h, and the table of CALLING.md;
-- the forms, keywords and versions of the script language (crates/scm_run), the help text (crates/scmgc), and the
+- the forms, keywords and versions of the script language (crates/scm_lines), the help text (crates/scmgc), and the
   manual page (docs/man/scmgc.1);
 - the events that tools/plain_engine.py serves, and those that tools/walks draws, with the errors that these meet.
 
@@ -195,7 +195,7 @@ def documented() -> Refusals:
 
 def forms() -> Dict[str, str]:
     """The lines of the table of forms, by verb."""
-    text, found = text_of("crates/scm_run/specs/Lines/Forms.antt"), {}
+    text, found = text_of("crates/scm_lines/specs/Forms.antt"), {}
     for maker, verb, form in re.findall(r'^(step|line)_row \w+\.\w+ = \(codes "(\w+)", (.*)\)$', text, re.M):
         kinds = re.findall(r"\w+(?= ◂)|\b(?:items|privilege)(?= λ)", form)
         found[verb] = " ".join(["P"] * (maker == "step") + [verb] + [WORDS.get(it, it) for it in kinds])
@@ -204,13 +204,13 @@ def forms() -> Dict[str, str]:
 
 def keywords() -> Dict[str, str]:
     """What each word stands for where a line is read: behind a process a verb, and else a keyword."""
-    text = text_of("crates/scm_run/src/lines/keywords.rt")
+    text = text_of("crates/scm_lines/src/keywords.rt")
     return {word: name for word, name in re.findall(r'b"(\w+)"(?: =>|,) ((?:Verb|Keyword)::\w+)', text)}
 
 
 def later_steps() -> Dict[str, str]:
     """The verbs of the steps that only scripts of version 2 have."""
-    text = text_of("crates/scm_run/specs/Lines/Versions.antt")
+    text = text_of("crates/scm_lines/specs/Versions.antt")
     return alike(it.lower() for it in re.findall(r"^is_later \(?step\.(\w+).* = true$", text, re.M))
 
 
@@ -289,9 +289,9 @@ def comparisons(rows: Dict[str, Row]) -> List[Comparison]:
         ("crates/af_steps/src", called, by_calls),
         ("crates/jaywardrobe/CALLING.md", documented, by_calls),
         ("include/jaywardrobe.h", declared, from_c),
-        ("crates/scm_run/specs/Lines/Forms.antt", forms, lines),
-        ("crates/scm_run/src/lines/keywords.rt", keywords, named),
-        ("crates/scm_run/specs/Lines/Versions.antt", later_steps, alike(later)),
+        ("crates/scm_lines/specs/Forms.antt", forms, lines),
+        ("crates/scm_lines/src/keywords.rt", keywords, named),
+        ("crates/scm_lines/specs/Versions.antt", later_steps, alike(later)),
         ("crates/scmgc, version 2", helped, alike(later.values())),
         ("crates/scmgc, examples", lambda: misnamed(lines), {}),
         ("docs/man/scmgc.1, of a process", in_manual, of_process),

@@ -9,10 +9,10 @@ use Rattle.std.proofs.lemmas.List.Elements.{All-append, All-nil, All-cons, All-f
 use Rattle.std.proofs.lemmas.Bool.{eqb-true, false_from_ne_true}
 use Rattle.std.proofs.lemmas.Grind.{common_steps}
 use Rattle.memchr.specs.Find.{IsFirstByte, is_byte}
-use Rattle.scm_run.specs.Lines.Meaning.{line_of, ◌>>=◌}
-use Rattle.scm_run.specs.Lines.Versions.{has_line, read_in}
-use Rattle.scm_run.specs.declared.lines.version.Version.{Version}
-use Rattle.scm_run.specs.declared.lines.line.TheConstants.{MAX_LINE}
+use Rattle.scm_lines.specs.Meaning.{line_of, ◌>>=◌}
+use Rattle.scm_lines.specs.Versions.{has_line, read_in}
+use Rattle.scm_lines.specs.declared.version.Version.{Version}
+use Rattle.scm_lines.specs.declared.line.TheConstants.{MAX_LINE}
 use Rattle.scm_run.specs.Progress.{may_fit}
 use Rattle.scm_run.specs.Script.{IsCut, NoFeed, ended_by_feed}
 

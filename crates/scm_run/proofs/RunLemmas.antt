@@ -7,7 +7,7 @@ use Rattle.std.proofs.KnownBytes.{Appends-trans, Appends-nil, Consumes-trans}
 use Rattle.std.proofs.lemmas.List.Elements.{All-nil}
 use Rattle.std.proofs.lemmas.List.{take_at, take_all, map-append, length-map}
 use Rattle.scm_run.specs.Watched.{AppendsFront}
-use Rattle.scm_run.specs.Lines.Versions.{read_in}
+use Rattle.scm_lines.specs.Versions.{read_in}
 use Rattle.scm_run.specs.Script.{FaultAt, LineText, NoFeed, Point, RanFirst, RanToEnd, RunText, StopsBy, Tells, Wrote, ended_by_feed, first_point, is_read_fault, RanAsRead}
 use Rattle.scm_run.specs.Gather.{WritesBeforeFault, WritesFront}
 use Rattle.scm_run.specs.Line.{LineDone, LineStops}

@@ -21,16 +21,16 @@ use Rattle.af_base.specs.Whole.{IsSound}
 use Rattle.af_steps.specs.Outcome.{Answers, Does, Refuses, RefusesStart, Starts, error_of, got_reply}
 use Rattle.af_steps.specs.declared.messages.Received.{Received}
 use Rattle.af_steps.proofs.FoldedReplies.{does-step, refuses-step}
-use Rattle.scm_run.specs.Lines.Forms.{line_row, read_form, step_row}
-use Rattle.scm_run.specs.Lines.Versions.{allowed_in, has_line, is_unknown, read_in}
-use Rattle.scm_run.specs.Lines.Words.{at_end, no_words, words_of}
-use Rattle.scm_run.specs.declared.lines.fault.LineFault.{LineFault}
-use Rattle.scm_run.specs.declared.lines.fault.LineFault.TheVariants as unread
-use Rattle.scm_run.specs.declared.lines.keywords.Keyword.{Keyword}
-use Rattle.scm_run.specs.declared.lines.keywords.Verb.{Verb}
-use Rattle.scm_run.specs.declared.lines.line.Line.TheVariants as line
-use Rattle.scm_run.specs.declared.lines.version.Version.{Version}
-use Rattle.scm_run.specs.declared.lines.version.Version.TheVariants as version
+use Rattle.scm_lines.specs.Forms.{line_row, read_form, step_row}
+use Rattle.scm_lines.specs.Versions.{allowed_in, has_line, is_unknown, read_in}
+use Rattle.scm_lines.specs.Words.{at_end, no_words, words_of}
+use Rattle.scm_lines.specs.declared.fault.LineFault.{LineFault}
+use Rattle.scm_lines.specs.declared.fault.LineFault.TheVariants as unread
+use Rattle.scm_lines.specs.declared.keywords.Keyword.{Keyword}
+use Rattle.scm_lines.specs.declared.keywords.Verb.{Verb}
+use Rattle.scm_lines.specs.declared.line.Line.TheVariants as line
+use Rattle.scm_lines.specs.declared.version.Version.{Version}
+use Rattle.scm_lines.specs.declared.version.Version.TheVariants as version
 use Rattle.scm_run.specs.Gather.{WritesFront}
 use Rattle.scm_run.specs.Line.{EventDone, LineDone, LineRead, LineStops, StepDone}
 use Rattle.scm_run.specs.Script.{Point}

@@ -1,5 +1,3 @@
--- The language of scripts.
-pub mod Lines
 -- The history of a watched reader or writer.
 pub mod WatchedView
 pub mod Watched

@@ -6,14 +6,14 @@ use Rattle.af_base.specs.declared.events.Event.{Event}
 use Rattle.af_base.specs.declared.events.Event.TheVariants as event
 use Rattle.af_base.specs.declared.events.Reply.{Reply}
 use Rattle.af_base.specs.declared.events.Step.{Step}
-use Rattle.scm_run.specs.Lines.Forms.{read_form, step_row}
-use Rattle.scm_run.specs.Lines.Versions.{read_in}
-use Rattle.scm_run.specs.Lines.Words.{words_of}
-use Rattle.scm_run.specs.declared.lines.fault.LineFault.{LineFault}
-use Rattle.scm_run.specs.declared.lines.fault.LineFault.TheVariants as unread
-use Rattle.scm_run.specs.declared.lines.keywords.Verb.{Verb}
-use Rattle.scm_run.specs.declared.lines.line.Line.TheVariants as line
-use Rattle.scm_run.specs.declared.lines.version.Version.{Version}
+use Rattle.scm_lines.specs.Forms.{read_form, step_row}
+use Rattle.scm_lines.specs.Versions.{read_in}
+use Rattle.scm_lines.specs.Words.{words_of}
+use Rattle.scm_lines.specs.declared.fault.LineFault.{LineFault}
+use Rattle.scm_lines.specs.declared.fault.LineFault.TheVariants as unread
+use Rattle.scm_lines.specs.declared.keywords.Verb.{Verb}
+use Rattle.scm_lines.specs.declared.line.Line.TheVariants as line
+use Rattle.scm_lines.specs.declared.version.Version.{Version}
 use Rattle.scm_run.specs.Watched.{AppendsFront}
 use Rattle.scm_run.specs.Gather.{WritesFront}
 use Rattle.scm_run.specs.Script.{LineText, Point}

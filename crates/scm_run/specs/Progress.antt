@@ -3,7 +3,7 @@ use Rattle.std.specs.Prelude.{◌≡◌, ℕ, ◌+◌, nat_le, List, [], ◌++�
 use Rattle.std.specs.Str.Lines.{lines, strip_carriage_return}
 use Rattle.std.specs.Io.KnownBytes.{Appends}
 use Rattle.scm_run.specs.Watched.{AppendsFront}
-use Rattle.scm_run.specs.declared.lines.line.TheConstants.{MAX_LINE}
+use Rattle.scm_lines.specs.declared.line.TheConstants.{MAX_LINE}
 use Rattle.scm_run.specs.Script.{IsCut, Point, RunText, FaultAt, first_point}
 use Rattle.scm_run.specs.declared.fault.RunFault.{RunFault}
 use Rattle.scm_run.specs.declared.fault.RunFault.TheVariants as fault

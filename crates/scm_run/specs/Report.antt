@@ -4,8 +4,8 @@ use Rattle.af_base.specs.World.{World}
 use Rattle.af_report.specs.Check.{IsCheckText}
 use Rattle.af_report.specs.Table.{table_text}
 use Rattle.af_report.specs.Totals.{totals_text}
-use Rattle.scm_run.specs.declared.lines.line.Report.{Report}
-use Rattle.scm_run.specs.declared.lines.line.Report.TheVariants as report
+use Rattle.scm_lines.specs.declared.line.Report.{Report}
+use Rattle.scm_lines.specs.declared.line.Report.TheVariants as report
 
 -- The text of a report of this world.
 abbrev pub IsReportText : World → Report → List ℕ → Type 0

@@ -11,11 +11,11 @@ use Rattle.af_base.specs.Run.{fresh, Step}
 use Rattle.af_base.specs.declared.errno.Errno.TheVariants.{ENOMEM}
 use Rattle.af_base.specs.declared.events.Reply.{Reply}
 use Rattle.af_base.specs.declared.events.Reply.TheVariants as reply
-use Rattle.scm_run.specs.Lines.Versions.{read_in, version_after}
-use Rattle.scm_run.specs.declared.lines.line.Line.{Line}
-use Rattle.scm_run.specs.declared.lines.line.Line.TheVariants as line
-use Rattle.scm_run.specs.declared.lines.version.Version.{Version}
-use Rattle.scm_run.specs.declared.lines.version.Version.TheVariants as version
+use Rattle.scm_lines.specs.Versions.{read_in, version_after}
+use Rattle.scm_lines.specs.declared.line.Line.{Line}
+use Rattle.scm_lines.specs.declared.line.Line.TheVariants as line
+use Rattle.scm_lines.specs.declared.version.Version.{Version}
+use Rattle.scm_lines.specs.declared.version.Version.TheVariants as version
 use Rattle.scm_run.specs.Watched.{AppendsFront}
 use Rattle.scm_run.specs.Text.{reply_line}
 use Rattle.scm_run.specs.Report.{IsReportText}

@@ -1,6 +1,6 @@
 //! The run of a script: its lines are read, done and answered, one after another.
 //!
-//! A caller wants [`run_script`] and [`RunFault`]. Each line is read by [`lines`],
+//! A caller wants [`run_script`] and [`RunFault`]. Each line is read by `scm_lines`,
 //! done by an engine of `af_steps` (`line`), and its text, of a reply (`text`) or of a report
 //! (`af_report`), is made whole and gathered: it is written before the next read (`gather`).
 //! An event is read, done by a typed call, and answered as text (`steps`, `outcome`).
@@ -10,7 +10,6 @@
 mod fault;
 mod gather;
 mod line;
-pub mod lines;
 mod outcome;
 mod run;
 mod steps;

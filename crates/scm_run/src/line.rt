@@ -11,7 +11,6 @@ ghost use Rattle.scm_run.specs.declared.text.TheConstants.{MAX_REPLY_LINE};
 
 use crate::fault::RunFault;
 use crate::gather::make_room;
-use crate::lines::{Line, LineFault, Report, Version, read_in, verb_in};
 use crate::steps::{do_event, do_step};
 use crate::text::push_reply;
 use crate::watched::Watched;
@@ -19,6 +18,7 @@ use af_base::errno::Errno;
 use af_base::events::Reply;
 use af_report::{check, table, totals};
 use af_steps::Engine;
+use scm_lines::{Line, LineFault, Report, Version, read_in, verb_in};
 use std::alloc::{AllocError, Global};
 use std::io::Write;
 

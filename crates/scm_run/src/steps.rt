@@ -1,16 +1,16 @@
 //! The lines of events, each read, done by its typed call and answered: no `Event` is made of them.
 ghost use Rattle.std.specs.Prelude.{◌≡◌, ◌≤◌, ◌+◌, IfOk, false, vec_capacity, vec_len};
-ghost use Rattle.scm_run.specs.declared.lines.keywords.Verb.TheVariants as verb;
+ghost use Rattle.scm_lines.specs.declared.keywords.Verb.TheVariants as verb;
 ghost use Rattle.scm_run.specs.Line.{EventDone, StepDone};
 ghost use Rattle.scm_run.specs.declared.text.TheConstants.{MAX_REPLY_LINE};
 
-use crate::lines::{Keyword, LineFault, Verb, forms, is_end, keyword_in};
 use crate::outcome::{
     push_done, push_fd, push_fds, push_finished, push_pid, push_progress, push_received, push_sent,
     push_started,
 };
 use af_base::ids::Pid;
 use af_steps::Engine;
+use scm_lines::{Keyword, LineFault, Verb, forms, is_end, keyword_in};
 use std::alloc::Global;
 
 /// Reads the words of a call by the form of its name, does the call, and appends the line of its

@@ -3,7 +3,7 @@ use Rattle.std.specs.Prelude.{◌≡◌, ◌⊎◌, ℕ, ◌+◌, List, [], ◌�
 use Rattle.std.specs.Str.Lines.{lines}
 use Rattle.std.specs.Io.KnownBytes.{Appends}
 use Rattle.af_base.specs.World.{World}
-use Rattle.scm_run.specs.Lines.Versions.{read_in}
+use Rattle.scm_lines.specs.Versions.{read_in}
 use Rattle.scm_run.specs.Script.{LineText, Point, first_point}
 use Rattle.scmgc.specs.Questions.{IsAnswerTo, question_of}
 use Rattle.scmgc.specs.Display.{entry_text, prompt_text}

@@ -3,8 +3,8 @@ use Rattle.std.specs.Prelude.{ℕ, List, [], ◌∷◌, Option, codes, ⊤}
 use Rattle.std.specs.Option.{option_and_then}
 use Rattle.af_base.specs.World.{World}
 use Rattle.af_report.specs.Graph.{IsGraph}
-use Rattle.scm_run.specs.Lines.Keywords.{meaning}
-use Rattle.scm_run.specs.Lines.Words.{only_of, words_of}
+use Rattle.scm_lines.specs.Keywords.{meaning}
+use Rattle.scm_lines.specs.Words.{only_of, words_of}
 use Rattle.scmgc.specs.declared.play.own.Question.{Question}
 use Rattle.scmgc.specs.declared.play.own.Question.TheVariants as question
 

@@ -7,7 +7,7 @@
 use crate::bench::runs::{Runs, print_times, refusal, time_since};
 use af_base::events::{Event, Reply};
 use af_steps::Engine;
-use scm_run::lines::{Line, LineFault, line_of};
+use scm_lines::{Line, LineFault, line_of};
 use std::alloc::{AllocError, Global};
 use std::io::{self, Print, Read};
 use std::str::Lines;

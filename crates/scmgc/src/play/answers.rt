@@ -1,11 +1,11 @@
 //! The answer to one line.
 ghost use Rattle.std.specs.Prelude.{◌≡◌, ◌++◌, ℕ, List, IfOk, None, OnOk, OnErr};
-ghost use Rattle.scm_run.specs.Lines.Versions.{read_in};
+ghost use Rattle.scm_lines.specs.Versions.{read_in};
 ghost use Rattle.scmgc.specs.Played.{Answers, IsTold};
 
 use crate::play::own::{answer_to, question_of};
 use af_steps::Engine;
-use scm_run::lines::{LineFault, Version, read_in, why};
+use scm_lines::{LineFault, Version, read_in, why};
 use scm_run::{MAX_REPLY_LINE, answer};
 use std::alloc::{AllocError, Global};
 

@@ -1,13 +1,13 @@
 //! The lines that only a script that is played has.
 ghost use Rattle.std.specs.Prelude.{◌≡◌, IfOk};
 ghost use Rattle.scmgc.specs.Questions.{IsAnswerTo, question_of, questions};
-ghost use Rattle.scm_run.specs.Lines.Keywords.{meaning};
+ghost use Rattle.scm_lines.specs.Keywords.{meaning};
 
 use crate::play::help::HELP;
 use crate::play::who::holders;
 use af_report::graph;
 use af_steps::Engine;
-use scm_run::lines::only_word;
+use scm_lines::only_word;
 use std::alloc::{AllocError, Global};
 
 /// A line that asks about the world, or about the language. It changes nothing.

@@ -11,7 +11,7 @@ use crate::play::answers::answer_line;
 use crate::play::fault::PlayFault;
 use crate::play::show::{Style, entry, prompt};
 use af_steps::Engine;
-use scm_run::lines::Version;
+use scm_lines::Version;
 use scm_run::without_return;
 use std::alloc::{AllocError, Global};
 use std::io::{BufRead, Write};

@@ -1,5 +1,5 @@
 use Rattle.std.proofs.Common.{refl}
-use Rattle.scm_run.specs.declared.lines.keywords.Verb.TheVariants as verb
+use Rattle.scm_lines.specs.declared.keywords.Verb.TheVariants as verb
 use Rattle.af_steps.specs.Outcome.{got_reply}
 use Rattle.scm_run.proofs.StepLemmas.{got_short, step_done}
 use Rattle.scm_run.proofs.steps.recv.Goals as goal

@@ -1,6 +1,6 @@
 use Rattle.std.proofs.Common.{refl}
 use Rattle.af_base.specs.declared.events.Reply.TheVariants as reply
-use Rattle.scm_run.specs.declared.lines.keywords.Verb.TheVariants as verb
+use Rattle.scm_lines.specs.declared.keywords.Verb.TheVariants as verb
 use Rattle.scm_run.proofs.StepLemmas.{send_renamed, step_done}
 use Rattle.scm_run.proofs.steps.send.Goals as goal
 

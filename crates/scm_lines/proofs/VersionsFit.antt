@@ -1,0 +1,171 @@
+-- Which lines that are of a form a script of some version can have.
+use Rattle.std.proofs.Common.{◌≡◌, ◌⊎◌, ℕ, ◌||◌, List, [], ◌∷◌, Bool, true, false, cond, not, Option, Some, None, is_none, is_some, refl, inl, inr, subst}
+use Rattle.std.specs.Option.{option_map}
+use Rattle.af_base.specs.declared.events.Step.{Step}
+use Rattle.af_base.specs.declared.events.Event.TheVariants as event
+use Rattle.scm_lines.specs.Words.{◌>>=◌}
+use Rattle.scm_lines.specs.Numbers.{number_of}
+use Rattle.scm_lines.specs.Attached.{attached_of}
+use Rattle.scm_lines.specs.Keywords.{privilege_of}
+use Rattle.scm_lines.specs.Fitting.{form_in, has_keyword, has_verb, step_in}
+use Rattle.scm_lines.specs.Forms.{Form, Value, end, items, keywords, line_row, named, privilege, read_form, step_row, value_in, verbs, ◌◂◌}
+use Rattle.scm_lines.specs.Meaning.{form_of, step_of}
+use Rattle.scm_lines.specs.Versions.{has_line, is_later, is_second}
+use Rattle.scm_lines.specs.declared.keywords.Keyword.{Keyword}
+use Rattle.scm_lines.specs.declared.keywords.Keyword.TheVariants as keyword
+use Rattle.scm_lines.specs.declared.keywords.Verb.{Verb}
+use Rattle.scm_lines.specs.declared.keywords.Verb.TheVariants as verb
+use Rattle.scm_lines.specs.declared.line.Line.{Line}
+use Rattle.scm_lines.specs.declared.line.Line.TheVariants as line
+use Rattle.scm_lines.specs.declared.version.Version.{Version}
+use Rattle.scm_lines.proofs.Choices.{bound, ended, mapped}
+
+-- ---- what a form makes
+
+-- All that the form makes passes.
+abbrev AllMake : {A : Type 0} → (A → Type 0) → Form A → Type 0
+AllMake P (end x) = P x
+AllMake P (privilege makes) = (granted : Bool) → P (makes granted)
+AllMake P (items makes) = (fds : List ℕ) → P (makes fds)
+AllMake P (k ◂ form) = (v : Value k) → AllMake P (form v)
+
+-- So what is read by it passes.
+pub made : {A : Type 0} (P : A → Type 0) (form : Form A) → AllMake P form → (words : List (List ℕ)) (x : A) → read_form form words ≡ Some x → P x
+made P (end y) all words x e = subst P (ended y x words e).1 all
+made P (privilege makes) all words x e = let (granted, (e1, is)) = mapped makes (privilege_of words) x e in subst P is (all granted)
+made P (items makes) all words x e = let (fds, (e1, is)) = mapped makes (attached_of words) x e in subst P is (all fds)
+made {A} P (k ◂ form) all words x e =
+    let (found, (e1, e2)) = bound (value_in k words) (λ found. read_form (form found.0) found.1) x e in made P (form found.0) (all found.0) found.1 x e2
+
+-- Nothing is there.
+pub none_of : (r : Option ℕ) → false ≡ is_some r → None ≡ r
+none_of None e = refl
+none_of (Some x) e = cc
+
+-- Where words misfit or the version has them, a misfit is one by either reason.
+unless : (misfit has : Bool) → (misfit ≡ true) ⊎ (has ≡ true) → misfit ≡ (misfit || not has)
+unless true has either = refl
+unless false true either = refl
+unless false false (inl e) = cc
+unless false false (inr e) = cc
+
+-- A choice with truth is true.
+or_true : (b : Bool) → true ≡ (b || true)
+or_true true = refl
+or_true false = refl
+
+-- ---- verbs
+
+-- The steps of a verb are of version 2 where the verb is.
+pub verb_makes : (v : Version) (k : Verb) → AllMake (λ does. (not (is_later does) || is_second v) ≡ has_verb v k) (step_row k).1
+verb_makes v verb.Send = λ on bytes fds. refl
+verb_makes v verb.Recv = λ on max_bytes max_fds. refl
+verb_makes v verb.Open = refl
+verb_makes v verb.Close = λ fd. refl
+verb_makes v verb.Dup = λ fd. refl
+verb_makes v verb.Dup2 = λ from to. refl
+verb_makes v verb.Connect = λ on text. refl
+verb_makes v verb.Accept = λ fd. refl
+verb_makes v verb.Socket = λ kind. refl
+verb_makes v verb.Pair = λ kind. refl
+verb_makes v verb.Fork = refl
+verb_makes v verb.Exit = refl
+verb_makes v verb.Bind = λ on text. refl
+verb_makes v verb.Listen = λ on backlog. refl
+verb_makes v verb.Peek = λ on max_bytes max_fds. refl
+verb_makes v verb.Limit = λ nofile. refl
+
+-- No word behind the process's number says no step.
+pub step_in_none : (v : Version) → true ≡ is_none (step_in v [])
+unfolding step_in step_of
+step_in_none v = refl
+
+-- A word that is no verb says no step.
+pub step_in_other : (v : Version) (word : List ℕ) (words : List (List ℕ)) → None ≡ named step_row verbs word → true ≡ is_none (step_in v (word ∷ words))
+unfolding step_in step_of
+step_in_other v word words other = rw (← other) refl
+
+-- A verb says a step where its words are read, and the version has it.
+step_in_named : (v : Version) (word : List ℕ) (words : List (List ℕ)) (k : Verb) → Some k ≡ named step_row verbs word
+    → is_none (step_in v (word ∷ words)) ≡ (is_none (read_form (step_row k).1 words) || not (has_verb v k))
+unfolding step_in step_of
+step_in_named v word words k is = rw (← is) (by (read_form (step_row k).1 words) (made (λ does. (not (is_later does) || is_second v) ≡ has_verb v k) (step_row k).1 (verb_makes v k) words))
+  where
+    by : (r : Option Step) → ((does : Step) → r ≡ Some does → (not (is_later does) || is_second v) ≡ has_verb v k)
+        → is_none (r >>= λ does. cond (not (is_later does) || is_second v) (Some does) None) ≡ (is_none r || not (has_verb v k))
+    by None same = refl
+    by (Some does) same = rw (same does refl) (by_version (has_verb v k))
+      where
+        by_version : (has : Bool) → is_none (cond has (Some does) None) ≡ (false || not has)
+        by_version true = refl
+        by_version false = refl
+
+-- A verb's misfit is the step's, where there is one or the version has the verb.
+pub step_misfit : (v : Version) (word : List ℕ) (words line : List (List ℕ)) (k : Verb) (misfit : Bool) → line ≡ word ∷ words → Some k ≡ named step_row verbs word
+    → misfit ≡ is_none (read_form (step_row k).1 words) → (misfit ≡ true) ⊎ (has_verb v k ≡ true) → misfit ≡ is_none (step_in v line)
+step_misfit v word words line k misfit parted is exact either = rw (parted, step_in_named v word words k is, ← exact) (unless misfit (has_verb v k) either)
+
+-- A step of another version is none.
+pub step_late : (v : Version) (word : List ℕ) (words line : List (List ℕ)) (k : Verb) → line ≡ word ∷ words → Some k ≡ named step_row verbs word
+    → has_verb v k ≡ false → true ≡ is_none (step_in v line)
+step_late v word words line k parted is late = rw (parted, step_in_named v word words k is, late) (or_true (is_none (read_form (step_row k).1 words)))
+
+-- ---- keywords
+
+-- The lines of a keyword are of a version where the keyword is.
+keyword_makes : (v : Version) (k : Keyword) → AllMake (λ said. has_line v said ≡ has_keyword v k) (line_row k).1
+keyword_makes v keyword.Spawn = λ uid nofile granted. refl
+keyword_makes v keyword.Begin = refl
+keyword_makes v keyword.Slice = λ budget. refl
+keyword_makes v keyword.Pass = refl
+keyword_makes v keyword.Table = refl
+keyword_makes v keyword.Totals = refl
+keyword_makes v keyword.Check = refl
+keyword_makes v keyword.Version = λ two. refl
+
+-- A process's number begins a line where its step is one.
+pub form_in_process : (v : Version) (word : List ℕ) (words : List (List ℕ)) (pid : ℕ) → Some pid ≡ number_of word
+    → is_none (form_in v word words) ≡ is_none (step_in v words)
+unfolding form_in form_of step_in
+form_in_process v word words pid is = rw (← is) (by (step_of words))
+  where
+    by : (r : Option Step) → is_none (option_map (λ does. line.Event (event.Proc pid does)) r >>= λ said. cond (has_line v said) (Some said) None)
+        ≡ is_none (r >>= λ does. cond (not (is_later does) || is_second v) (Some does) None)
+    by None = refl
+    by (Some does) = by_version (not (is_later does) || is_second v)
+      where
+        by_version : (has : Bool) → is_none (cond has (Some (line.Event (event.Proc pid does))) None) ≡ is_none (cond has (Some does) None)
+        by_version true = refl
+        by_version false = refl
+
+-- A word that is neither a number nor a keyword begins no line.
+pub form_in_other : (v : Version) (word : List ℕ) (words : List (List ℕ)) → None ≡ number_of word → None ≡ named line_row keywords word
+    → true ≡ is_none (form_in v word words)
+unfolding form_in form_of
+form_in_other v word words no_number other = rw (← no_number, ← other) refl
+
+-- A keyword begins a line where its words are read, and the version has it.
+form_in_named : (v : Version) (word : List ℕ) (words : List (List ℕ)) (k : Keyword) → None ≡ number_of word → Some k ≡ named line_row keywords word
+    → is_none (form_in v word words) ≡ (is_none (read_form (line_row k).1 words) || not (has_keyword v k))
+unfolding form_in form_of
+form_in_named v word words k no_number is =
+    rw (← no_number, ← is) (by (read_form (line_row k).1 words) (made (λ said. has_line v said ≡ has_keyword v k) (line_row k).1 (keyword_makes v k) words))
+  where
+    by : (r : Option Line) → ((said : Line) → r ≡ Some said → has_line v said ≡ has_keyword v k)
+        → is_none (r >>= λ said. cond (has_line v said) (Some said) None) ≡ (is_none r || not (has_keyword v k))
+    by None same = refl
+    by (Some said) same = rw (same said refl) (by_version (has_keyword v k))
+      where
+        by_version : (has : Bool) → is_none (cond has (Some said) None) ≡ (false || not has)
+        by_version true = refl
+        by_version false = refl
+
+-- A keyword's misfit is the line's, where there is one or the version has the keyword.
+pub form_misfit : (v : Version) (word : List ℕ) (words : List (List ℕ)) (k : Keyword) (misfit : Bool) → None ≡ number_of word → Some k ≡ named line_row keywords word
+    → misfit ≡ is_none (read_form (line_row k).1 words) → (misfit ≡ true) ⊎ (has_keyword v k ≡ true) → misfit ≡ is_none (form_in v word words)
+form_misfit v word words k misfit no_number is exact either = rw (form_in_named v word words k no_number is, ← exact) (unless misfit (has_keyword v k) either)
+
+-- A line of another version is none.
+pub form_late : (v : Version) (word : List ℕ) (words : List (List ℕ)) (k : Keyword) → None ≡ number_of word → Some k ≡ named line_row keywords word
+    → has_keyword v k ≡ false → true ≡ is_none (form_in v word words)
+form_late v word words k no_number is late = rw (form_in_named v word words k no_number is, late) (or_true (is_none (read_form (line_row k).1 words)))

@@ -1,0 +1,73 @@
+-- Which words fit a form, and why a word is no number. This project's profile.
+use Rattle.std.specs.Prelude.{ℕ, ◌==◌, ◌&&◌, ◌||◌, List, [], ◌∷◌, Bool, true, false, not, if◌then◌else◌, Option, Some, None, is_some, codes}
+use Rattle.std.specs.Str.{bytes_eq}
+use Rattle.af_base.specs.declared.events.Step.{Step}
+use Rattle.scm_lines.specs.Words.{all_printable, no_words}
+use Rattle.scm_lines.specs.Numbers.{all_digits, number_of}
+use Rattle.scm_lines.specs.Payload.{payload_of}
+use Rattle.scm_lines.specs.Attached.{attached_of}
+use Rattle.scm_lines.specs.Keywords.{privilege_of, type_of}
+use Rattle.scm_lines.specs.Meaning.{form_of, step_of, ◌>>=◌}
+use Rattle.scm_lines.specs.Versions.{has_line, is_later, is_second, is_unknown}
+use Rattle.scm_lines.specs.declared.line.Line.{Line}
+use Rattle.scm_lines.specs.declared.explain.Last.{Last}
+use Rattle.scm_lines.specs.declared.explain.Last.TheVariants as last
+use Rattle.scm_lines.specs.declared.explain.Wanted.{Wanted}
+use Rattle.scm_lines.specs.declared.explain.Wanted.TheVariants as wanted
+use Rattle.scm_lines.specs.declared.keywords.Keyword.{Keyword}
+use Rattle.scm_lines.specs.declared.keywords.Keyword.TheVariants as keyword
+use Rattle.scm_lines.specs.declared.keywords.Verb.{Verb}
+use Rattle.scm_lines.specs.declared.keywords.Verb.TheVariants as verb
+use Rattle.scm_lines.specs.declared.reason.Reason.{Reason}
+use Rattle.scm_lines.specs.declared.reason.Reason.TheVariants as reason
+use Rattle.scm_lines.specs.declared.version.Version.{Version}
+
+-- Why digits that are no number are none: there is none of them, a 0 leads them, or they say too
+-- much.
+abbrev pub digits_reason : List ℕ → Reason
+digits_reason [] = reason.NotANumber
+digits_reason (b ∷ []) = reason.NumberTooLarge
+digits_reason (b ∷ c ∷ bytes) = if b == 48 then reason.LeadingZero else reason.NumberTooLarge
+
+-- Why a word that is no number is none.
+abbrev pub number_reason : List ℕ → Reason
+number_reason word = if all_digits word then digits_reason word else reason.NotANumber
+
+-- The word is what is wanted.
+abbrev pub fits_word : Wanted → List ℕ → Bool
+fits_word wanted.Number word = is_some (number_of word)
+fits_word wanted.Type word = is_some (type_of word)
+fits_word wanted.Name word = all_printable word
+fits_word wanted.Bytes word = is_some (payload_of word)
+fits_word wanted.Two word = bytes_eq word (codes "2")
+
+-- The last words are what is wanted.
+abbrev pub fits_last : Last → List (List ℕ) → Bool
+fits_last last.Nothing words = no_words words
+fits_last last.Privilege words = is_some (privilege_of words)
+fits_last last.Items words = is_some (attached_of words)
+
+-- The words are what is wanted, one after another.
+abbrev pub fits_words : List Wanted → Last → List (List ℕ) → Bool
+fits_words [] end words = fits_last end words
+fits_words (first ∷ others) end [] = false
+fits_words (first ∷ others) end (word ∷ words) = fits_word first word && fits_words others end words
+
+-- Events with this verb can come now.
+abbrev pub has_verb : Version → Verb → Bool
+has_verb v verb.Peek = is_second v
+has_verb v verb.Limit = is_second v
+has_verb v other = true
+
+-- A line with this keyword can come now.
+abbrev pub has_keyword : Version → Keyword → Bool
+has_keyword v keyword.Version = is_unknown v
+has_keyword v other = true
+
+-- The step of a process in a script of this version.
+unfoldable pub step_in : Version → List (List ℕ) → Option Step
+step_in v words = step_of words >>= λ does. if not (is_later does) || is_second v then Some does else None
+
+-- The next line of a script, by its first word.
+unfoldable pub form_in : Version → List ℕ → List (List ℕ) → Option Line
+form_in v word words = form_of word words >>= λ said. if has_line v said then Some said else None

@@ -1,0 +1,24 @@
+-- The words with a meaning after a keyword. This project's profile.
+use Rattle.std.specs.Prelude.{ℕ, List, [], ◌∷◌, find, if◌then◌else◌, Bool, true, false, Option, Some, None, codes}
+use Rattle.std.specs.Option.{option_map}
+use Rattle.std.specs.Str.{bytes_eq}
+use Rattle.af_base.specs.declared.events.SockType.{SockType}
+use Rattle.af_base.specs.declared.events.SockType.TheVariants.{Seqpacket, Stream}
+use Rattle.scm_lines.specs.Words.{at_end}
+
+-- The meaning of a word in a table of words.
+abbrev pub meaning : {A : Type 0} → List (List ℕ × A) → List ℕ → Option A
+meaning table word = option_map (λ entry. entry.1) (find (λ entry. bytes_eq entry.0 word) table)
+
+-- The types of sockets, each with its word.
+abbrev pub types : List (List ℕ × SockType)
+types = (codes "stream", Stream) ∷ (codes "seqpacket", Seqpacket) ∷ []
+
+-- The type of sockets that a word names.
+abbrev pub type_of : List ℕ → Option SockType
+type_of word = meaning types word
+
+-- No word, or priv alone.
+abbrev pub privilege_of : List (List ℕ) → Option Bool
+privilege_of [] = Some false
+privilege_of (word ∷ words) = if bytes_eq word (codes "priv") then at_end true words else None

@@ -1,0 +1,30 @@
+//! A line is read just as the table of forms says; and the lines of version 1.
+ghost use Rattle.std.specs.Prelude.{◌≡◌, List, ℕ, Some, true};
+ghost use Rattle.scm_lines.specs.Meaning.{line_of};
+ghost use Rattle.scm_lines.specs.Says.{IsLine};
+ghost use Rattle.scm_lines.specs.Versions.{is_of_first, read_in};
+ghost use Rattle.scm_lines.specs.declared.line.Line.{Line};
+ghost use Rattle.scm_lines.specs.declared.version.Version.{Version};
+ghost use Rattle.scm_lines.specs.declared.version.Version.TheVariants as version;
+
+/// A line that is read is one that the table says.
+pub fn what_is_read_is_said()
+    ensures { (bytes : List ℕ) (said : Line) → line_of bytes ≡ Some said → IsLine bytes said }
+{}
+
+/// A line that the table says is read.
+pub fn what_is_said_is_read()
+    ensures { (bytes : List ℕ) (said : Line) → IsLine bytes said → line_of bytes ≡ Some said }
+{}
+
+/// A line of version 1 is read the same in any script.
+pub fn version_1_is_read_in_any()
+    ensures { (v : Version) (bytes : List ℕ) (said : Line) → is_of_first said ≡ true
+        → line_of bytes ≡ Some said → read_in v bytes ≡ Some said }
+{}
+
+/// A script of version 1 has no other line.
+pub fn version_1_has_no_other()
+    ensures { (bytes : List ℕ) (said : Line) → read_in version.First bytes ≡ Some said
+        → is_of_first said ≡ true }
+{}

@@ -1,0 +1,139 @@
+//! The versions of the language.
+//!
+//! A script is of version 2 where its first line that is not silent is `version 2`. Then it may
+//! have `peek` and `limit` besides all lines of version 1.
+ghost use Rattle.std.specs.Prelude.{◌≡◌, IfErr, IfSome, if◌then◌else◌, true};
+ghost use Rattle.std.specs.Option.{option_map};
+ghost use Rattle.af_base.specs.declared.events.Event.TheVariants as event;
+ghost use Rattle.scm_lines.specs.Fault.{Reads};
+ghost use Rattle.scm_lines.specs.Fitting.{has_verb};
+ghost use Rattle.scm_lines.specs.Forms.{line_row, read_form, step_row};
+ghost use Rattle.scm_lines.specs.Meaning.{line_takes_memory};
+ghost use Rattle.scm_lines.specs.Versions.{allowed_in, has_line, is_later, is_unknown, read_in};
+ghost use Rattle.scm_lines.specs.Versions.{version_after};
+ghost use Rattle.scm_lines.specs.Words.{words_of};
+ghost use Rattle.scm_lines.specs.declared.fault.LineFault.TheVariants as fault;
+ghost use Rattle.scm_lines.specs.declared.line.Line.TheVariants as line;
+ghost use Rattle.scm_lines.specs.declared.version.Version.TheVariants as version;
+
+use crate::fault::LineFault;
+use crate::keywords::{Keyword, Verb, event_at, verb_named};
+use crate::line::{Line, MAX_LINE, line_of};
+use crate::numbers::number_in;
+use crate::words::{ends_word, first_word};
+use af_base::events::{Event, Step};
+use af_base::ids::Pid;
+use std::alloc::Global;
+
+/// The version of a script, by its lines so far.
+#[derive(Clone, Copy, PartialEq, Eq)]
+pub enum Version {
+    /// All lines were silent, so the script may be of either version.
+    Unknown,
+    /// The script is of version 1.
+    First,
+    /// The script is of version 2.
+    Second,
+}
+
+impl Version {
+    /// Returns whether a script of this version may have this line next.
+    fn has(self, line: &Line) -> bool
+        ensures { result ≡ has_line self line.now }
+    {
+        match line {
+            Line::Version2 => self == Version::Unknown,
+            Line::Event(Event::Proc(_, step)) => !is_later(step) || self == Version::Second,
+            _ => true,
+        }
+    }
+
+    /// Returns the version after this line.
+    pub fn after(self, line: &Line) -> Version
+        ensures { result ≡ version_after self line.now }
+    {
+        match line {
+            Line::Silence => self,
+            Line::Version2 => Version::Second,
+            _ => self.after_event(),
+        }
+    }
+
+    /// Returns the version after an event or a report.
+    pub fn after_event(self) -> Version
+        ensures { result ≡ (if is_unknown self then version.First else self) }
+    {
+        match self {
+            Version::Unknown => Version::First,
+            _ => self,
+        }
+    }
+}
+
+/// Returns whether the step is one of version 2.
+fn is_later(step: &Step) -> bool
+    ensures { result ≡ is_later step.now }
+{
+    matches!(step, Step::Peek { .. } | Step::Limit(_))
+}
+
+/// Returns whether a script of this version may have steps of this verb.
+pub fn has_verb(version: Version, verb: Verb) -> bool
+    ensures { result ≡ has_verb version verb }
+{
+    !matches!(verb, Verb::Peek | Verb::Limit) || version == Version::Second
+}
+
+/// Returns the process and the verb that a process's line begins with, and the bytes after them.
+/// `None` says that [`read_in`] has to read the line.
+#[inline(always)]
+pub fn verb_in(version: Version, bytes: &[u8]) -> Option<(Pid, Verb, &[u8])>
+    ensures { IfSome result (λ found. read_in version bytes.now
+        ≡ option_map (λ does. line.Event (event.Proc found.0 does))
+        (read_form (step_row found.1).1 (words_of found.2.now))) }
+{
+    // A line that begins with no digit is a keyword's, as a rule.
+    if bytes.len() > MAX_LINE || !matches!(bytes, [b'0'..=b'9', ..]) {
+        return None;
+    }
+    let (pid, rest) = number_in(bytes)?;
+    let (word, rest) = first_word(rest)?;
+    let verb = verb_named(word)?;
+    if has_verb(version, verb) {
+        Some((Pid(pid), verb, rest))
+    } else {
+        None
+    }
+}
+
+/// Returns the keyword of the event that a line begins with, and the bytes after it. `None` says
+/// that [`read_in`] has to read the line.
+pub fn keyword_in(bytes: &[u8]) -> Option<(Keyword, &[u8])>
+    ensures { IfSome result (λ found. (v : Version) → read_in v bytes.now
+        ≡ allowed_in v (read_form (line_row found.0).1 (words_of found.1.now))) }
+{
+    if bytes.len() > MAX_LINE {
+        return None;
+    }
+    let (keyword, rest) = event_at(bytes)?;
+    if ends_word(rest) {
+        Some((keyword, rest))
+    } else {
+        None
+    }
+}
+
+/// Reads the next line of a script of this version. [`LineFault::Unreadable`]: [`line_of`] cannot
+/// read it, or the script may not have it there. [`LineFault::Memory`]: as of [`line_of`].
+pub fn read_in(alloc: Global, version: Version, bytes: &[u8]) -> Result<Line, LineFault>
+    ensures read { Reads (read_in version bytes.now) result }
+    ensures memory { IfErr result
+        (λ f. f ≡ fault.Memory → line_takes_memory (words_of bytes.now) ≡ true) }
+{
+    let line = line_of(alloc, bytes)?;
+    if version.has(&line) {
+        Ok(line)
+    } else {
+        Err(LineFault::Unreadable)
+    }
+}

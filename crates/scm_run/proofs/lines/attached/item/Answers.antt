@@ -1,9 +1,0 @@
-use Rattle.std.proofs.Common.{rules, ◌≡◌, Some, sym}
-use Rattle.scm_run.specs.Lines.Numbers.{number_of}
-use Rattle.scm_run.proofs.lines.AttachedSays.{number_item}
-use Rattle.scm_run.proofs.lines.attached.item.Goals as goal
-
-pub returns-in-Some-clause-value : goal.returns-in-Some-clause-value
-returns-in-Some-clause-value c =
-    let read : number_of c.args.word.now ≡ Some c.in-Some.fd = search rules in
-    sym (number_item c.args.word.now c.in-Some.fd read)

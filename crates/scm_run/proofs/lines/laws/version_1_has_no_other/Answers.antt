@@ -1,5 +1,0 @@
-use Rattle.scm_run.proofs.lines.VersionsRead.{first_alone}
-use Rattle.scm_run.proofs.lines.laws.version_1_has_no_other.Goals as goal
-
-pub returns : goal.returns
-returns c = first_alone

@@ -1,5 +1,0 @@
-use Rattle.scm_run.proofs.lines.VersionsRead.{first_in_any}
-use Rattle.scm_run.proofs.lines.laws.version_1_is_read_in_any.Goals as goal
-
-pub returns : goal.returns
-returns c = first_in_any

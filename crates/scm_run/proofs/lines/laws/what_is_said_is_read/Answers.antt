@@ -1,5 +1,0 @@
-use Rattle.scm_run.proofs.lines.LineLemmas.{line_read}
-use Rattle.scm_run.proofs.lines.laws.what_is_said_is_read.Goals as goal
-
-pub returns : goal.returns
-returns c = line_read

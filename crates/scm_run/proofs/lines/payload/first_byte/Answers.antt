@@ -1,9 +1,0 @@
-use Rattle.std.proofs.Common.{arith}
-use Rattle.std.proofs.lemmas.Grind.{common_steps}
-use Rattle.scm_run.proofs.lines.payload.first_byte.Goals as goal
-
-pub returns-in_ok-low-in-37-clause-some : goal.returns-in_ok-low-in-37-clause-some
-returns-in_ok-low-in-37-clause-some c = grind (arith, common_steps)
-
-pub returns-in-len1-up-clause-some : goal.returns-in-len1-up-clause-some
-returns-in-len1-up-clause-some c = grind (arith, common_steps)
