@@ -1,4 +1,4 @@
--- The option that is added stands before the rest.
+-- The option that is added comes before the rest.
 use Rattle.std.proofs.Common.{arith, rules}
 use Rattle.std.proofs.lemmas.Grind.{common_steps}
 use Rattle.scmgc.proofs.task.with_numbers.Goals as goal
