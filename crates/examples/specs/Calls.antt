@@ -103,7 +103,7 @@ Denies old p s before value new after =
     (e : Errno) × Refuses old p s e new × (value ≡ below (error_number e)) × (after ≡ before)
 
 -- The outcome of a call that asks for this.
-abbrev pub Answers : Machine → ℕ → Result Step ℕ → Memory → ℤ → Machine → Memory → Type 0
-Answers old p (Ok s) before value new after =
+abbrev pub AnswersCall : Machine → ℕ → Result Step ℕ → Memory → ℤ → Machine → Memory → Type 0
+AnswersCall old p (Ok s) before value new after =
     Serves old p s before value new after ⊎ Denies old p s before value new after
-Answers old p (Err e) before value new after = (value ≡ below e) × (new ≡ old) × (after ≡ before)
+AnswersCall old p (Err e) before value new after = (value ≡ below e) × (new ≡ old) × (after ≡ before)

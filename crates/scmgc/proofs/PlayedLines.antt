@@ -7,7 +7,7 @@ use Rattle.std.proofs.KnownBytes.{Appends-nil, Appends-trans}
 use Rattle.std.specs.Prelude.{Err, Ok, OnOk, Option, Result}
 use Rattle.scm_run.specs.Script.{Point, RunText, first_point}
 use Rattle.scmgc.specs.Cut.{line_in}
-use Rattle.scmgc.specs.Played.{Answers, PlayText, Played}
+use Rattle.scmgc.specs.Played.{AnswersLine, PlayText, Played}
 use Rattle.scmgc.specs.Progress.{Goes, IsOver}
 use Rattle.scmgc.specs.Display.{entry_text, prompt_text}
 use Rattle.scmgc.specs.declared.play.show.Style.{Style}
@@ -28,7 +28,7 @@ pub record Leads (style : Style) (input : List ℕ) (left before after : Option 
   pub leads : (text : List ℕ) (new : Point) → Plays style n point (lines rest) text new → Plays style 1 first_point (lines input) (written ++ text) new
 
 -- One line before others.
-one_more : (style : Style) (n : ℕ) (old mid new : Point) (line : List ℕ) (others : List (List ℕ)) (answer text : List ℕ) → Answers old line answer mid
+one_more : (style : Style) (n : ℕ) (old mid new : Point) (line : List ℕ) (others : List (List ℕ)) (answer text : List ℕ) → AnswersLine old line answer mid
     → Plays style (n + 1) mid others text new → Plays style n old (line ∷ others) (prompt_text style n ++ (entry_text style n line answer ++ text)) new
 one_more style n old mid new line others answer text (inl does) later = record {
   read = line ∷ later.read;
@@ -103,19 +103,19 @@ run_of_played style n old (bytes ∷ others) read replies text new (mid, answer,
 
 -- A line that was read with its end is played where its text is written.
 pub line_played : {E : Type 0} (r : Result (Unit {0}) E) (style : Style) (n : ℕ) (old new : Point) (line read text shown : List ℕ) (before after : Option (List ℕ)) → line ≡ line_in read
-    → shown ≡ text → (answer : List ℕ) × (text ≡ entry_text style n line answer) × Answers old line answer new → OnOk r (Appends before after shown)
-    → OnOk r ((answer : List ℕ) × Answers old (line_in read) answer new × Appends before after (entry_text style n (line_in read) answer))
+    → shown ≡ text → (answer : List ℕ) × (text ≡ entry_text style n line answer) × AnswersLine old line answer new → OnOk r (Appends before after shown)
+    → OnOk r ((answer : List ℕ) × AnswersLine old (line_in read) answer new × Appends before after (entry_text style n (line_in read) answer))
 line_played (Err e) style n old new line read text shown before after is same made wrote = tt
 line_played (Ok x) style n old new line read text shown before after is same (answer, made, answers) wrote = (
   answer,
-  subst (λ (l : List ℕ). Answers old l answer new) is answers,
+  subst (λ (l : List ℕ). AnswersLine old l answer new) is answers,
   subst (λ (t : List ℕ). Appends before after t) (same ∙ made ∙ ap (λ l. entry_text style n l answer) is) wrote,
 )
 
 -- So the first line of the input is.
 pub line_goes : (style : Style) (n : ℕ) (old new : Point) (input read : List ℕ) (left before mid after : Option (List ℕ)) → read ≡ take_through 10 input → 0 < length read
     → left ≡ Some (drop_through 10 input) → Appends before mid (prompt_text style n)
-    → (answer : List ℕ) × Answers old (line_in read) answer new × Appends mid after (entry_text style n (line_in read) answer) → Goes style n input left before after old new
+    → (answer : List ℕ) × AnswersLine old (line_in read) answer new × Appends mid after (entry_text style n (line_in read) answer) → Goes style n input left before after old new
 line_goes style n old new input read left before mid after is some leaves prompted (answer, answers, wrote) = record {
   line = line_in read;
   rest = drop_through 10 input;

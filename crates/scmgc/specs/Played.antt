@@ -25,8 +25,8 @@ TellsOf old bytes answer new = (read_in old.version bytes ≡ None)
     × IsTold old.machine.world bytes answer × (new ≡ old)
 
 -- The answer to a line at this point, and where it leads.
-abbrev pub Answers : Point → List ℕ → List ℕ → Point → Type 0
-Answers old bytes answer new = DoesLine old bytes answer new ⊎ TellsOf old bytes answer new
+abbrev pub AnswersLine : Point → List ℕ → List ℕ → Point → Type 0
+AnswersLine old bytes answer new = DoesLine old bytes answer new ⊎ TellsOf old bytes answer new
 
 -- These lines, from the one of this number on, lead from old to new, and this is their shown text.
 -- Some of them can be read at their place, and these are their answers.

@@ -3,7 +3,7 @@ use Rattle.std.specs.Prelude.{◌≡◌, ℕ, List, [], ◌∷◌, ◌++◌, Opt
 use Rattle.std.specs.Str.Lines.{lines}
 use Rattle.std.specs.Io.KnownBytes.{Appends}
 use Rattle.scm_run.specs.Script.{Point}
-use Rattle.scmgc.specs.Played.{Answers}
+use Rattle.scmgc.specs.Played.{AnswersLine}
 use Rattle.scmgc.specs.Display.{entry_text, prompt_text}
 use Rattle.scmgc.specs.declared.play.show.Style.{Style}
 
@@ -16,7 +16,7 @@ pub record Goes (style : Style) (number : ℕ) (input : List ℕ) (left before a
   pub answer : List ℕ
   pub cut : lines input ≡ line ∷ lines rest
   pub leaves : left ≡ Some rest
-  pub answers : Answers old line answer new
+  pub answers : AnswersLine old line answer new
   pub wrote : Appends before after (prompt_text style number ++ entry_text style number line answer)
 
 -- This input has no line, and the prompt for one is shown.

@@ -1,5 +1,5 @@
 //! The table of system calls.
-ghost use Rattle.examples.specs.Calls.{Answers, asked, pair_asked, recv_asked, send_asked};
+ghost use Rattle.examples.specs.Calls.{AnswersCall, asked, pair_asked, recv_asked, send_asked};
 
 use crate::kernel::linux;
 use crate::kernel::linux::{answer_of, refusal};
@@ -44,7 +44,7 @@ impl Memory {
 /// number, or 0 where it has none; or it is refused, answers the negative of the error's number,
 /// and nothing has changed. A number that is no call is refused by ENOSYS.
 pub fn system_call(engine: &mut Engine, pid: Pid, registers: Registers, memory: &mut Memory) -> i64
-    ensures { Answers engine.old pid
+    ensures { AnswersCall engine.old pid
         (asked registers memory.old) memory.old result engine.new memory.new }
 {
     let on = Fd(registers.first);
@@ -66,7 +66,7 @@ pub fn system_call(engine: &mut Engine, pid: Pid, registers: Registers, memory: 
 
 /// Does socketpair(2): makes two sockets that are connected to each other.
 fn socketpair(engine: &mut Engine, pid: Pid, registers: Registers, memory: &mut Memory) -> i64
-    ensures { Answers engine.old pid
+    ensures { AnswersCall engine.old pid
         (pair_asked registers) memory.old result engine.new memory.new }
 {
     if registers.first != linux::AF_UNIX {
@@ -86,7 +86,7 @@ fn socketpair(engine: &mut Engine, pid: Pid, registers: Registers, memory: &mut 
 
 /// Does sendmsg(2) with the bytes in memory.
 fn sendmsg(engine: &mut Engine, pid: Pid, registers: Registers, memory: &Memory) -> i64
-    ensures { Answers engine.old pid
+    ensures { AnswersCall engine.old pid
         (send_asked registers memory.now) memory.now result engine.new memory.now }
 {
     let bytes = memory.bytes.as_slice();
@@ -99,7 +99,7 @@ fn sendmsg(engine: &mut Engine, pid: Pid, registers: Registers, memory: &Memory)
 
 /// Does recvmsg(2), and writes the result to memory.
 fn recvmsg(engine: &mut Engine, pid: Pid, registers: Registers, memory: &mut Memory) -> i64
-    ensures { Answers engine.old pid
+    ensures { AnswersCall engine.old pid
         (recv_asked registers) memory.old result engine.new memory.new }
 {
     match engine.recv(pid, Fd(registers.first), registers.second, registers.third) {

@@ -31,7 +31,7 @@ pub enum Locking {
 
 /// A thread's seat and process, and whether no call of it was refused.
 #[derive(Drop)]
-struct Caller {
+struct SeatCaller {
     seat: Seat,
     pid: Pid,
     is_done: bool,
@@ -60,13 +60,18 @@ pub fn time_of_run<R: Threads + Wait + Clock + Sync>(
 }
 
 /// Starts a process from a seat, which gets room for this many pairs.
-fn caller_of<R: Wait>(rt: &R, layer: &Layer, mut seat: Seat, pairs: usize) -> io::Result<Caller> {
+fn caller_of<R: Wait>(
+    rt: &R,
+    layer: &Layer,
+    mut seat: Seat,
+    pairs: usize,
+) -> io::Result<SeatCaller> {
     seat.reserve(pairs)?;
     if layer.call(rt, &mut seat, SPAWN).is_err() {
         return Err(refusal());
     }
     let pid = Pid(seat.number());
-    Ok(Caller {
+    Ok(SeatCaller {
         seat,
         pid,
         is_done: false,
@@ -77,7 +82,7 @@ fn caller_of<R: Wait>(rt: &R, layer: &Layer, mut seat: Seat, pairs: usize) -> io
 fn are_made<R: Threads + Wait + Sync>(
     rt: &R,
     layer: &Layer,
-    callers: &mut [Caller],
+    callers: &mut [SeatCaller],
     locking: Locking,
     events: usize,
 ) -> bool {
@@ -89,7 +94,7 @@ fn are_made<R: Threads + Wait + Sync>(
         rt,
         callers,
         count,
-        &|_, caller: &mut Caller| {
+        &|_, caller: &mut SeatCaller| {
             caller.is_done = match locking {
                 Locking::Calls => calls(rt, layer, caller, events),
                 Locking::Batches(size) => batches(rt, layer, caller, events, size),
@@ -100,7 +105,7 @@ fn are_made<R: Threads + Wait + Sync>(
 }
 
 /// Makes these calls from a seat, and returns whether none was refused.
-fn calls<R: Wait>(rt: &R, layer: &Layer, caller: &mut Caller, events: usize) -> bool {
+fn calls<R: Wait>(rt: &R, layer: &Layer, caller: &mut SeatCaller, events: usize) -> bool {
     for turn in 0..events {
         let event = open_or_close(caller.pid, turn);
         if layer.call(rt, &mut caller.seat, event).is_err() {
@@ -114,7 +119,7 @@ fn calls<R: Wait>(rt: &R, layer: &Layer, caller: &mut Caller, events: usize) -> 
 fn batches<R: Wait>(
     rt: &R,
     layer: &Layer,
-    caller: &mut Caller,
+    caller: &mut SeatCaller,
     events: usize,
     size: usize,
 ) -> bool {

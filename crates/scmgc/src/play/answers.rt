@@ -1,7 +1,7 @@
 //! The answer to one line.
 ghost use Rattle.std.specs.Prelude.{◌≡◌, ◌++◌, ℕ, List, IfOk, None, OnOk, OnErr};
 ghost use Rattle.scm_lines.specs.Versions.{read_in};
-ghost use Rattle.scmgc.specs.Played.{Answers, IsTold};
+ghost use Rattle.scmgc.specs.Played.{AnswersLine, IsTold};
 
 use crate::play::own::{answer_to, question_of};
 use af_steps::Engine;
@@ -45,7 +45,7 @@ pub fn answer_line(
     text: &mut Vec<u8>,
 ) -> Result<(), AllocError>
     ensures ok { OnOk result ((line : List ℕ) × (text.new.items ≡ text.old.items ++ line)
-        × Answers (record { machine = engine.old; version = version.old }) bytes.now line
+        × AnswersLine (record { machine = engine.old; version = version.old }) bytes.now line
         (record { machine = engine.new; version = version.new })) }
     ensures err { OnErr result ((engine.new ≡ engine.old) × (version.new ≡ version.old)) }
 {

@@ -2,7 +2,7 @@
 ghost use Rattle.std.specs.Prelude.{◌≡◌, ◌++◌, ℕ, List, [], false, true, IfOk, OnOk, Some};
 ghost use Rattle.std.specs.Io.BufRead.{drop_through, take_through};
 ghost use Rattle.std.specs.Io.KnownBytes.{Appends, IsAtEnd};
-ghost use Rattle.scmgc.specs.Played.{Answers, Played};
+ghost use Rattle.scmgc.specs.Played.{AnswersLine, Played};
 ghost use Rattle.scmgc.specs.Display.{entry_text, prompt_text};
 ghost use Rattle.scmgc.specs.Cut.{line_in};
 ghost use Rattle.scmgc.specs.Progress.{IsOver, Goes};
@@ -74,7 +74,7 @@ fn shown_line(
 ) -> Result<Vec<u8>, AllocError>
     ensures { IfOk result (λ shown.
         (answer : List ℕ) × (shown.items ≡ entry_text style number line.now answer)
-        × Answers (record { machine = engine.old; version = version.old }) line.now answer
+        × AnswersLine (record { machine = engine.old; version = version.old }) line.now answer
         (record { machine = engine.new; version = version.new })) }
 {
     let mut answer = Vec::new(alloc);
@@ -93,9 +93,10 @@ fn play_read<W: Write>(
     writer: &mut W,
 ) -> Result<(), PlayFault>
     ensures { OnOk result ((answer : List ℕ)
-        × Answers (record { machine = engine.old; version = version.old }) (line_in read.now) answer
-        (record { machine = engine.new; version = version.new }) × Appends (W.contents writer.old)
-        (W.contents writer.new) (entry_text style number (line_in read.now) answer)) }
+        × AnswersLine (record { machine = engine.old; version = version.old }) (line_in read.now)
+        answer (record { machine = engine.new; version = version.new })
+        × Appends (W.contents writer.old) (W.contents writer.new)
+        (entry_text style number (line_in read.now) answer)) }
 {
     let shown = shown_line(alloc, style, number, engine, version, line_in(read))?;
     write_out(writer, shown.as_slice())
