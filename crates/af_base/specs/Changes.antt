@@ -104,7 +104,10 @@ add_file w x = record w { files = map.insert w.files w.next_ino x; next_ino = w.
 
 -- The next pid is this process.
 abbrev pub add_process : World → Process → World
-add_process w q = record w { processes = map.insert w.processes w.next_pid q; next_pid = w.next_pid + 1 }
+add_process w q = record w {
+  processes = map.insert w.processes w.next_pid q;
+  next_pid = w.next_pid + 1;
+}
 
 -- A new user is added at the end.
 abbrev pub add_user : World → ℕ → World

@@ -165,7 +165,10 @@ on_limit nofile = (nat_lt MAX_NOFILE nofile, ERANGE) ∷ []
 
 -- The socket must be new and nameless, and these bytes a name (bind(2), EINVAL).
 abbrev pub on_bind : Socket → List ℕ → RefusalRow
-on_bind s name = (not (is_none s.name) || is_connected s.state || is_listening s.state || not (is_name name), EINVAL) ∷ []
+on_bind s name = (
+  not (is_none s.name) || is_connected s.state || is_listening s.state || not (is_name name),
+  EINVAL,
+) ∷ []
 
 -- The name must be nobody's (bind(2), EADDRINUSE).
 abbrev pub on_name : Option ℕ → RefusalRow
@@ -173,7 +176,11 @@ on_name owner = (not (is_none owner), EADDRINUSE) ∷ []
 
 -- The socket must have a name and be new, and b be a right backlog (listen(2), EINVAL).
 abbrev pub on_listen : Socket → ℕ → RefusalRow
-on_listen s b = (is_none s.name || is_connected s.state || is_listening s.state || not (is_between 1 MAX_BACKLOG b), EINVAL) ∷ []
+on_listen s b = (
+  is_none s.name || is_connected s.state || is_listening s.state
+      || not (is_between 1 MAX_BACKLOG b),
+  EINVAL,
+) ∷ []
 
 -- A connecting socket must be new (connect(2), EISCONN).
 abbrev pub on_client : State → RefusalRow
@@ -259,7 +266,8 @@ step_row w p (step.Listen n b) = at_socket w p n ++ on_listen (socket_on w p n) 
 step_row w p (step.Connect n name) =
     let s = socket_on w p n in
     at_socket w p n ++ on_client s.state ++ on_listener (socket_named w name) s.kind ++ on_files w 1
-step_row w p (step.Accept n) = at_socket w p n ++ on_accept (socket_on w p n) ++ on_free (process_at w p) 1
+step_row w p (step.Accept n) =
+    at_socket w p n ++ on_accept (socket_on w p n) ++ on_free (process_at w p) 1
 step_row w p (step.Send n bytes attach) =
     let q = process_at w p in
     let s = socket_on w p n in

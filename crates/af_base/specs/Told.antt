@@ -12,7 +12,8 @@ use Rattle.af_base.specs.World.{File, Map, Since, World}
 
 -- Whether the number was live when the lists were emptied last, or was given out since.
 abbrev pub was_given : Since → ℕ → ℕ → Bool
-was_given since next f = if nat_lt f since.next then map.contains_key since.files f else nat_lt f next
+was_given since next f =
+    if nat_lt f since.next then map.contains_key since.files f else nat_lt f next
 
 -- Each number that was live then, or was given out since, is live or in the list, once; no other is
 -- in it.

@@ -40,7 +40,8 @@ without gone w = record w {
 -- `new` is `old` settled: without exactly its unheld files (this project's profile: in the same
 -- step).
 abbrev pub Settles : World → World → Type 0
-Settles old new = (gone : ℕ → Bool) × ((f : ℕ) → (gone f ≡ true) ↔ Unheld old f) × (new ≡ without gone old)
+Settles old new =
+    (gone : ℕ → Bool) × ((f : ℕ) → (gone f ≡ true) ↔ Unheld old f) × (new ≡ without gone old)
 
 -- Nothing is to be freed.
 abbrev pub IsSettled : World → Type 0

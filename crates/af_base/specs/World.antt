@@ -64,7 +64,13 @@ untold = record { changed = false; released = false; files = map.empty; next = 1
 
 -- No process, no file, no user; numbers begin at 1.
 abbrev pub empty_world : World
-empty_world = record { processes = map.empty; files = map.empty; next_ino = 1; next_pid = 1; users = [] }
+empty_world = record {
+  processes = map.empty;
+  files = map.empty;
+  next_ino = 1;
+  next_pid = 1;
+  users = [];
+}
 
 -- Whether the world has the file.
 abbrev pub is_live : World → ℕ → Bool

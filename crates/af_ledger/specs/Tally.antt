@@ -75,11 +75,17 @@ with_user u us = if is_user u us then us else us ++ (u, 0) ∷ []
 
 -- This many units of charge more (unix(7), ETOOMANYREFS: sent, and not yet received).
 abbrev pub charged_by : ℕ → ℕ → Tally → Tally
-charged_by units u k = record k { users = recharged (λ n. n + units) u k.users; total = k.total + units }
+charged_by units u k = record k {
+  users = recharged (λ n. n + units) u k.users;
+  total = k.total + units;
+}
 
 -- This many units of charge less (unix(7), ETOOMANYREFS).
 abbrev pub freed_by : ℕ → ℕ → Tally → Tally
-freed_by units u k = record k { users = recharged (λ n. n - units) u k.users; total = k.total - units }
+freed_by units u k = record k {
+  users = recharged (λ n. n - units) u k.users;
+  total = k.total - units;
+}
 
 -- The unit of charge of a place more: only one in a queue has one.
 abbrev pub charged_more : Place → Tally → Tally
@@ -95,16 +101,19 @@ charged_less Backlog k = k
 
 -- One place more holds f.
 abbrev pub with_ref : Place → ℕ → Tally → Tally
-with_ref p f k = charged_more p (record k { counts = map.insert k.counts f (more p (count_of k f)) })
+with_ref p f k =
+    charged_more p (record k { counts = map.insert k.counts f (more p (count_of k f)) })
 
 -- One place less holds f.
 abbrev pub without_ref : Place → ℕ → Tally → Tally
-without_ref p f k = charged_less p (record k { counts = map.insert k.counts f (fewer p (count_of k f)) })
+without_ref p f k =
+    charged_less p (record k { counts = map.insert k.counts f (fewer p (count_of k f)) })
 
 -- A charged user is known, and the charges are low enough for one unit more.
 abbrev pub IsChargeable : Place → Tally → Type 0
 IsChargeable Table k = Unit {0}
-IsChargeable (Queue u) k = IsTrue (is_user u k.users) × (charge_of k u < 2 ^ 63) × (k.total < 2 ^ 63)
+IsChargeable (Queue u) k =
+    IsTrue (is_user u k.users) × (charge_of k u < 2 ^ 63) × (k.total < 2 ^ 63)
 IsChargeable Backlog k = Unit {0}
 
 -- The unit is charged.

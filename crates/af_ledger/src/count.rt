@@ -12,8 +12,8 @@ const IN_QUEUE: u64 = 1 << 21;
 /// One place in a backlog, as it is counted.
 const IN_BACKLOG: u64 = 1 << 42;
 
-/// How many places hold a file: descriptors, places in queues, and places in backlogs. Each kind has
-/// fewer than 2^21, so one word has all, and one comparison tells that there is none.
+/// How many places hold a file: descriptors, places in queues, and places in backlogs. Each kind
+/// has fewer than 2^21, so one word has all, and one comparison tells that there is none.
 #[derive(Drop)]
 pub struct Count {
     word: u64,

@@ -54,7 +54,9 @@ forgotten f m = record m { colors = map.remove m.colors f }
 
 -- f is grey where it was made before the pass and not marked.
 abbrev pub shaded : ℕ → MarksView → MarksView
-shaded f m = if nat_lt f m.bound && is_white m f then record m { colors = map.insert m.colors f Grey } else m
+shaded f m =
+    if nat_lt f m.bound && is_white m f then record m { colors = map.insert m.colors f Grey }
+    else m
 
 -- The same, but f is black where it was scanned too.
 abbrev pub marked_once : Bool → ℕ → MarksView → MarksView

@@ -24,7 +24,8 @@ keys_from s k (suc n) = k ∷ keys_from s (next_at s k) n
 -- The messages of n nodes from this one on.
 abbrev pub messages_from : Slab Node → ℕ → ℕ → List Message
 messages_from s k zero = []
-messages_from s k (suc n) = option_map_or (λ x. x.message ∷ messages_from s x.next n) (slots.get s k) []
+messages_from s k (suc n) =
+    option_map_or (λ x. x.message ∷ messages_from s x.next n) (slots.get s k) []
 
 -- The keys of a queue's nodes.
 abbrev pub keys_of : Slab Node → Chain → List ℕ
@@ -43,7 +44,8 @@ IsPath s l k (suc n) =
     × (list_any (nat_eq k) (keys_from s x.next n) ≡ false) × (n ≡ zero → k ≡ l)
     × IsMessageWithin x.message × IsPath s l x.next n)
 
--- The nodes of a queue, 64 at most, are linked. Its messages have attached files only if it says so.
+-- The nodes of a queue, 64 at most, are linked. Its messages have attached files only if it says
+-- so.
 pub record IsChain (s : Slab Node) (c : Chain) : Type 0 where
   pub few : c.len ≤ MAX_MESSAGES
   pub path : IsPath s c.last c.first c.len

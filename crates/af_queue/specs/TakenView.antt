@@ -14,7 +14,10 @@ pub record TakenView : Type 0 where
 
 -- Nothing at all.
 abbrev pub nothing_received : TakenView
-nothing_received = record { message = record { bytes = []; attached = []; user = 0 }; trunc = false }
+nothing_received = record {
+  message = record { bytes = []; attached = []; user = 0 };
+  trunc = false;
+}
 
 -- A result with the files of that message, and its sender as the user charged for them.
 abbrev pub with_files_of : Message → TakenView → TakenView
@@ -23,7 +26,8 @@ with_files_of m t = record t { message = record t.message { attached = m.attache
 -- The message that has the c-th byte of a queue, counted from 1.
 abbrev pub message_at : ℕ → List Message → Option Message
 message_at c [] = None
-message_at c (m ∷ q) = if nat_le c (length m.bytes) then Some m else message_at (c - length m.bytes) q
+message_at c (m ∷ q) =
+    if nat_le c (length m.bytes) then Some m else message_at (c - length m.bytes) q
 
 -- The sender of the c-th byte of a queue.
 abbrev pub sender_at : ℕ → List Message → ℕ

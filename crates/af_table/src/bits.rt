@@ -1,6 +1,6 @@
 //! Which numbers below the largest limit are taken.
-ghost use Rattle.std.specs.Prelude.{◌≡◌, ℕ, ◌-◌, ◌≤◌, ◌<◌, IfSome, IfNone, not, true, false, nat_eq};
-ghost use Rattle.std.specs.Prelude.{if◌then◌else◌};
+ghost use Rattle.std.specs.Prelude.{◌≡◌, ℕ, ◌-◌, ◌≤◌, ◌<◌, IfSome, IfNone, not, true, false};
+ghost use Rattle.std.specs.Prelude.{if◌then◌else◌, nat_eq};
 ghost use Rattle.af_table.specs.Bits.{is_taken, IsPlace, HasNoPlace};
 
 use af_base::limits::MAX_NOFILE;

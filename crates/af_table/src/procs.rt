@@ -106,8 +106,8 @@ impl Procs {
         Some(process)
     }
 
-    /// Lends a known process to write to, with room for each descriptor below its limit. On an error
-    /// nothing has changed.
+    /// Lends a known process to write to, with room for each descriptor below its limit. On an
+    /// error nothing has changed.
     #[inline(always)]
     #[tactic(auto, using(crate::proofs::Parts::part_changes))]
     pub fn find_with_room(&mut self, pid: Pid) -> Result<&mut Process, AllocError>
@@ -217,9 +217,9 @@ impl Procs {
         pid
     }
 
-    /// Starts a process by a fork: of the same user, with the same limit and privilege, and with the
-    /// same open descriptors. Returns its pid. Room for further descriptors is not reserved. On an
-    /// error no process changes.
+    /// Starts a process by a fork: of the same user, with the same limit and privilege, and with
+    /// the same open descriptors. Returns its pid. Room for further descriptors is not reserved. On
+    /// an error no process changes.
     #[tactic(auto, using(af_base::proofs::Trees::changes))]
     pub fn copy_for_fork(&mut self, pid: Pid) -> Result<Pid, AllocError>
         requires there { IsTrue (map.contains_key self.old.processes pid) }

@@ -5,5 +5,6 @@ use Rattle.ordered_slab.specs.OrderedSlabView.{OrderedSlabView, with_value}
 use Rattle.ordered_slab.specs.contracts.numbered.OrderedSlab as keyed
 
 -- Once the borrow r ends, f has the last value written through r; at `None` all is as it was.
-abbrev pub lends_at : (T : RattleType) → MutBor (OrderedSlabView T.Denot) → ℕ → Option (MutBor T.Denot) → Fml
+abbrev pub lends_at : (T : RattleType) → MutBor (OrderedSlabView T.Denot) → ℕ
+    → Option (MutBor T.Denot) → Fml
 lends_at T s f r = LendsIf (keyed.the_row T) T s r (with_value s.now f) s.now

@@ -29,8 +29,8 @@ const PACKED_AT_ONCE: usize = 16;
 /// ones are packed a few at a time, so that each event has a bounded cost.
 #[derive(Drop)]
 pub struct Order {
-    /// How many rows a packing has packed. Not beside `read`, or one store writes both, and the next
-    /// row is read only when it is known whether the last one is live.
+    /// How many rows a packing has packed. Not beside `read`, or one store writes both, and the
+    /// next row is read only when it is known whether the last one is live.
     packed: usize,
     /// All rows, rising, but for those from `packed` to `read`.
     rows: Vec<OrderRow>,
@@ -282,7 +282,8 @@ impl Order {
         }
     }
 
-    /// Reads a row, if one is left: it moves a live one behind the packed ones, and drops a dead one.
+    /// Reads a row, if one is left: it moves a live one behind the packed ones, and drops a dead
+    /// one.
     #[inline(always)]
     fn pack_row<T>(&mut self, slab: &Slab<NumberedValue<T>>)
         requires place { AreInPlace (keys_of slab.now) slab.now }
@@ -293,7 +294,8 @@ impl Order {
         let Some(row) = self.rows.get(self.read) else {
             return;
         };
-        // No processor can guess whether it is live: a dead one is written too, the next one over it.
+        // No processor can guess whether it is live: a dead one is written too, the next one over
+        // it.
         let live = is_live(slab, row);
         self.rows[self.packed] = row.duplicate();
         self.packed += usize::from(live);
