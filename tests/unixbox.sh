@@ -37,7 +37,8 @@ same() {
     box=$1
     as=$2
     shift 2
-    timeout 60 $as "$@" > "$room/native"
+    : > "$room/layer"
+    timeout 60 $as "$@" > "$room/native" 2> "$room/said" || fails "status $? natively: $*"
     for how in "--gc=slice --budget=1" --gc=pass; do
         timeout 60 $as "$box" $how --verify --check -- "$@" > "$room/layer" 2> "$room/said" ||
             fails "status $?: $box $how -- $*"
@@ -52,6 +53,7 @@ same() {
 plays() {
     same "$1" "$user" "$room/descriptors"
     same "$1" "" "$room/waits"
+    same "$1" "" "$room/processes"
     same "$1" "" python3 tests/unixbox/descriptors.py
     if timeout 60 "$1" --gc=none -- "$room/descriptors" cycle > "$room/layer" 2> "$room/said"; then
         fails "a cycle is freed with --gc=none"
@@ -59,7 +61,7 @@ plays() {
     echo "unixbox: the programs passed$2"
 }
 
-for name in notification descriptors waits cost; do
+for name in notification descriptors waits processes cost; do
     $cc $checks -pedantic "tests/unixbox/$name.c" -o "$room/$name" -lpthread
 done
 if ! $user "$room/notification" 2> "$room/why"; then

@@ -73,6 +73,11 @@ bool write_memory(const struct call *call, uint64_t to, const void *from, size_t
     return process_vm_writev(call->tid, &here, 1, &there, 1, 0) == (ssize_t)length;
 }
 
+/* Whether the caller waits for an answer. While it does, no other thread has its number. */
+static bool is_pending(const struct call *call) {
+    return ioctl(notifications, SECCOMP_IOCTL_NOTIF_ID_VALID, &call->id) == 0;
+}
+
 static void answer(struct call *call, long result) {
     if (call->moved > 0) result = (long)call->moved; /* Whatever ended it. */
     struct seccomp_notif_resp response = {.id = call->id, .val = result >= 0 ? result : 0};
@@ -89,7 +94,7 @@ static void answer(struct call *call, long result) {
 static void run(struct call *call) {
     struct process *process = call->process;
     long result = process != NULL ? KERNEL_DOES_IT : -EPERM;
-    if (process != NULL && !process->is_over) {
+    if (process != NULL && is_pending(call) && !process->is_over) {
         if (process->closer == call->tid) process->closer = 0; /* It has closed. */
         if (process->has_changed) sync_table(process);
         call->file = file_of(process, call->fd);
@@ -118,6 +123,7 @@ void rerun_woken_calls(void) {
 }
 
 static void serve_call(const struct seccomp_notif *notif) {
+    if (!is_alone) forget_ended(); /* A caller may have waited for a child that was killed. */
     struct call call = {.id = notif->id, .number = notif->data.nr, .tid = (pid_t)notif->pid,
                         .fd = (uint32_t)notif->data.args[0], .process = process_of(notif->pid)};
     memcpy(call.args, notif->data.args, sizeof call.args);

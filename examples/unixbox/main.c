@@ -84,21 +84,17 @@ static void reap(int flags) {
 
 /* Waits for the end of a process, or for a tick. Returns false where no program is left. */
 static bool watch(void) {
-    struct epoll_event event;
-    int count = epoll_wait(watches, &event, 1, TICK);
-    if (count == 1 && event.data.ptr == NULL) return false;
+    int count = epoll_wait(watches, &(struct epoll_event){0}, 1, TICK);
     pthread_mutex_lock(&serving);
-    if (count == 1) {
-        forget_process(event.data.ptr);
+    bool is_program_left = forget_ended();
+    if (count == 1)
         reap(WNOHANG);
-        settle(false);
-    } else {
+    else
         wake(EVERYONE); /* A signal may have come. */
-    }
     for (int i = 0; i < TICK_SLICES && collect(); i++) continue;
     rerun_woken_calls();
     pthread_mutex_unlock(&serving);
-    return true;
+    return is_program_left;
 }
 
 int main(int argc, char **argv) {

@@ -9,25 +9,44 @@ struct process_list processes = LIST_HEAD_INITIALIZER(processes);
 static void read_text(pid_t tid, const char *name, char *text, size_t room) {
     snprintf(text, room, "/proc/%d/task/%d/%s", tid, tid, name);
     int file = open(text, O_RDONLY | O_CLOEXEC);
-    ssize_t length = read(file, text, room - 1);
-    text[length > 0 ? length : 0] = '\0';
+    size_t length = 0;
+    for (ssize_t part; (part = read(file, text + length, room - 1 - length)) > 0;)
+        length += (size_t)part;
+    text[length] = '\0';
     close(file);
+}
+
+/* Returns whether a signal waits for the thread of this status. One that is sent to a process goes
+ * to its first thread, unless that blocks it or is over. */
+static bool has_signal(const char *status, pid_t tid, pid_t tgid) {
+    char text[4096];
+    const char *at = strstr(status, "\nSigPnd:"), *first;
+    uint64_t own = 0, shared = 0, blocked = 0, ignored = 0, left = UINT64_MAX;
+    if (at == NULL || sscanf(at, " SigPnd: %lx ShdPnd: %lx SigBlk: %lx SigIgn: %lx", &own, &shared,
+                             &blocked, &ignored) < 4)
+        return false;
+    shared &= ~blocked & ~ignored;
+    if (tid != tgid && shared != 0) {
+        read_text(tgid, "status", text, sizeof text);
+        if (strstr(text, "\nState:\tZ") == NULL && (first = strstr(text, "\nSigBlk:")) != NULL)
+            sscanf(first, " SigBlk: %lx", &left);
+    }
+    return ((own & ~blocked & ~ignored) | (shared & left)) != 0;
 }
 
 /* Reads what a thread and its process are. Returns false where it is over. */
 bool read_status(pid_t tid, struct status *out) {
     char text[4096], state;
-    uint64_t own = 0, shared = 0, blocked = 0, ignored = 0;
     read_text(tid, "status", text, sizeof text);
-    const char *users = strstr(text, "\nUid:"), *signals = strstr(text, "\nSigPnd:");
-    if (users == NULL || signals == NULL ||
-        sscanf(text, "Name:\t%15[^\n] Umask: %o State: %c%*[^\n] Tgid: %d", out->name, &out->umask,
-               &state, &out->user.pid) < 4 || state == 'Z' || state == 'X')
+    const char *rest = strstr(text, "\nUmask:"), *users = strstr(text, "\nUid:");
+    if (rest == NULL || users == NULL ||
+        sscanf(rest, " Umask: %o State: %c%*[^\n] Tgid: %d", &out->umask, &state,
+               &out->user.pid) < 3 || state == 'Z' || state == 'X')
         return false;
+    out->name[0] = '\0'; /* A name may be empty. */
+    sscanf(text, "Name:\t%15[^\n]", out->name);
     sscanf(users, " Uid: %*u %u %*u %*u Gid: %*u %u", &out->user.uid, &out->user.gid);
-    sscanf(signals, " SigPnd: %lx ShdPnd: %lx SigBlk: %lx SigIgn: %lx", &own, &shared, &blocked,
-           &ignored);
-    out->is_signalled = ((own | shared) & ~blocked & ~ignored) != 0;
+    out->is_signalled = has_signal(text, tid, out->user.pid);
     return true;
 }
 
@@ -71,15 +90,29 @@ void forget_process(struct process *process) {
     free(process);
 }
 
-/* Returns a child of this thread that no process is bound to, or 0. */
+/* Forgets processes that are over. Returns false where no program is left. */
+bool forget_ended(void) {
+    struct epoll_event event;
+    while (epoll_wait(watches, &event, 1, 0) == 1) {
+        if (event.data.ptr == NULL) return false;
+        forget_process(event.data.ptr);
+        settle(false);
+    }
+    return true;
+}
+
+/* Returns the last child of this thread that no process is bound to, or 0. */
 static pid_t unbound_child(pid_t tid) {
-    char text[4096], *at = text;
+    static char text[1 << 16];
     struct status status;
-    pid_t pid;
     read_text(tid, "children", text, sizeof text);
-    do pid = (pid_t)strtol(at, &at, 10);
-    while (pid > 0 && (process_by(pid) != NULL || !read_status(pid, &status)));
-    return pid;
+    for (char *end; (end = strrchr(text, ' ')) != NULL;) { /* Each number has one behind it. */
+        *end = '\0';
+        const char *last = strrchr(text, ' ');
+        pid_t pid = atoi(last != NULL ? last : text);
+        if (process_by(pid) == NULL && read_status(pid, &status)) return pid;
+    }
+    return 0;
 }
 
 /* Binds children that are there. The others go where their fork(2) has failed: it is over. */

@@ -122,6 +122,7 @@ bool read_status(pid_t tid, struct status *out);
 void add_process(uint32_t pid, pid_t parent, pid_t forker);
 struct process *process_of(pid_t tid);
 void forget_process(struct process *process);
+bool forget_ended(void);
 
 void *copy_of(const void *value, size_t size);
 struct file *file_at(uint64_t ino);

@@ -1,0 +1,143 @@
+/* Starts, kills, interrupts and replaces processes that use sockets, and says what comes out.
+ *
+ * Each check prints a line, the same natively and under unixbox. The status is 0 if all hold. */
+#define _GNU_SOURCE
+#include "must.h"
+#include <pthread.h>
+#include <signal.h>
+#include <sys/prctl.h>
+#include <sys/socket.h>
+#include <sys/wait.h>
+#include <unistd.h>
+
+enum { CHILDREN = 800, PAUSE = 100000 }; /* Microseconds. */
+
+static int way[2];
+
+static void must_exit(pid_t child) {
+    int status;
+    MUST(waitpid(child, &status, 0) == child && WIFEXITED(status) && WEXITSTATUS(status) == 0);
+}
+
+/* The last of many children of one thread makes a socket while all are alive. */
+static const char *check_children(void) {
+    static pid_t children[CHILDREN];
+    int gate[2];
+    MUST(pipe(gate) == 0);
+    for (int i = 0; i < CHILDREN; i++) {
+        MUST((children[i] = fork()) >= 0);
+        if (children[i] == 0) {
+            MUST(close(gate[1]) == 0 && read(gate[0], way, 1) == 0);
+            _exit(i == CHILDREN - 1 && socket(AF_UNIX, SOCK_STREAM, 0) < 0);
+        }
+    }
+    MUST(close(gate[0]) == 0 && close(gate[1]) == 0);
+    for (int i = 0; i < CHILDREN; i++)
+        must_exit(children[i]);
+    return "the last of many children makes a socket";
+}
+
+/* The sockets of a child that was killed are closed once its parent has waited for it. */
+static const char *check_kill(void) {
+    for (int round = 0; round < 20; round++) {
+        char byte;
+        MUST(socketpair(AF_UNIX, SOCK_STREAM, 0, way) == 0);
+        pid_t child = fork();
+        if (child == 0) {
+            MUST(close(way[0]) == 0 && write(way[1], "x", 1) == 1);
+            _exit(read(way[1], &byte, 1) != 1);
+        }
+        MUST(close(way[1]) == 0 && read(way[0], &byte, 1) == 1);
+        MUST(kill(child, SIGKILL) == 0 && waitpid(child, NULL, 0) == child);
+        MUST(send(way[0], "x", 1, MSG_NOSIGNAL) < 0 && errno == EPIPE && close(way[0]) == 0);
+    }
+    return "the sockets of a killed child are closed after the wait for it";
+}
+
+static void *send_late(void *none) {
+    MUST(usleep(PAUSE) == 0 && write(way[0], "x", 1) == 1);
+    return none;
+}
+
+/* A thread with this name waits in a receive. */
+static void must_wait(const char *name) {
+    pthread_t sender;
+    char byte;
+    MUST(prctl(PR_SET_NAME, name) == 0 && pthread_create(&sender, NULL, send_late, NULL) == 0);
+    MUST(read(way[1], &byte, 1) == 1 && pthread_join(sender, NULL) == 0);
+}
+
+static const char *check_name(void) {
+    MUST(socketpair(AF_UNIX, SOCK_STREAM, 0, way) == 0);
+    must_wait("");
+    must_wait("fourteen and a\\");
+    must_wait("processes");
+    MUST(close(way[0]) == 0 && close(way[1]) == 0);
+    return "a receive waits, whatever the name of its thread";
+}
+
+static void ignore(int number) {
+    (void)number;
+}
+
+static void *receive(void *none) {
+    char byte;
+    MUST(recv(way[1], &byte, 1, 0) == 1);
+    return none;
+}
+
+/* A signal to the process interrupts the receive of its first thread, and no other. */
+static const char *check_signal(void) {
+    pthread_t other;
+    int own[2];
+    char byte;
+    MUST(socketpair(AF_UNIX, SOCK_STREAM, 0, way) == 0);
+    MUST(socketpair(AF_UNIX, SOCK_STREAM, 0, own) == 0);
+    MUST(sigaction(SIGUSR1, &(struct sigaction){.sa_handler = ignore}, NULL) == 0);
+    MUST(pthread_create(&other, NULL, receive, NULL) == 0);
+    pid_t child = fork();
+    if (child == 0) {
+        MUST(usleep(PAUSE) == 0 && kill(getppid(), SIGUSR1) == 0);
+        MUST(usleep(PAUSE) == 0 && write(way[0], "x", 1) == 1);
+        _exit(0);
+    }
+    MUST(recv(own[1], &byte, 1, 0) < 0 && errno == EINTR);
+    MUST(pthread_join(other, NULL) == 0);
+    must_exit(child);
+    MUST(close(own[0]) == 0 && close(own[1]) == 0 && close(way[0]) == 0 && close(way[1]) == 0);
+    return "a signal interrupts the first thread alone";
+}
+
+static void *start_cat(void *none) {
+    MUST(usleep(PAUSE) == 0);
+    execlp("sh", "sh", "-c", "sleep 0.2; test \"$(cat)\" = text", NULL);
+    return none;
+}
+
+/* A receive ends with its thread, so the message is the next program's. */
+static const char *check_exec(void) {
+    pthread_t other;
+    char text[8];
+    MUST(socketpair(AF_UNIX, SOCK_STREAM | SOCK_CLOEXEC, 0, way) == 0);
+    pid_t child = fork();
+    if (child == 0) {
+        MUST(dup2(way[1], STDIN_FILENO) == STDIN_FILENO);
+        MUST(pthread_create(&other, NULL, start_cat, NULL) == 0);
+        _exit(read(STDIN_FILENO, text, sizeof text) >= 0);
+    }
+    MUST(close(way[1]) == 0 && usleep(2 * PAUSE) == 0 && write(way[0], "text", 4) == 4);
+    MUST(shutdown(way[0], SHUT_WR) == 0);
+    must_exit(child);
+    MUST(close(way[0]) == 0);
+    return "a receive ends with its thread, and takes nothing from the next program";
+}
+
+int main(void) {
+    setvbuf(stdout, NULL, _IOLBF, 0); /* No child inherits a line. */
+    printf("children: %s\n", check_children());
+    printf("kill: %s\n", check_kill());
+    printf("name: %s\n", check_name());
+    printf("signal: %s\n", check_signal());
+    printf("exec: %s\n", check_exec());
+    return 0;
+}
