@@ -54,6 +54,7 @@ plays() {
     same "$1" "$user" "$room/descriptors"
     same "$1" "" "$room/waits"
     same "$1" "" "$room/processes"
+    same "$1" "$user" "$room/arguments"
     same "$1" "" python3 tests/unixbox/descriptors.py
     if timeout 60 "$1" --gc=none -- "$room/descriptors" cycle > "$room/layer" 2> "$room/said"; then
         fails "a cycle is freed with --gc=none"
@@ -61,7 +62,7 @@ plays() {
     echo "unixbox: the programs passed$2"
 }
 
-for name in notification descriptors waits processes cost; do
+for name in notification descriptors waits processes arguments cost; do
     $cc $checks -pedantic "tests/unixbox/$name.c" -o "$room/$name" -lpthread
 done
 if ! $user "$room/notification" 2> "$room/why"; then

@@ -112,7 +112,8 @@ long serve_dup(struct call *call) {
     if (is_fcntl && !closes_on_exec && call->args[1] != F_DUPFD) return KERNEL_DOES_IT;
     sync_table(call->process);
     struct file *file = file_of(call->process, call->fd);
-    if (file == NULL || (is_fixed && (call->fd == to || to >= JW_MAX_NOFILE)))
+    if (file == NULL || (is_fixed && (call->fd == to || to >= JW_MAX_NOFILE)) ||
+        (is_dup3 && (call->args[2] & ~(uint64_t)O_CLOEXEC)))
         return KERNEL_DOES_IT;
     for (long number = -EBUSY; number == -EBUSY; from = to + 1) { /* An accept(2) has that one. */
         bool has_choice = !is_fixed && lowest_free(call->process, 0) >= from;

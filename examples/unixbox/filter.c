@@ -19,6 +19,12 @@ static long refuse(struct call *call) {
     return call->file != NULL ? -EINVAL : -ENOSYS;
 }
 
+/* sendfile(2), which would read from a placeholder. */
+static long serve_sendfile(struct call *call) {
+    const struct file *source = file_of(call->process, (uint32_t)call->args[1]);
+    return source != NULL && source->kind != JW_PLAIN ? -EINVAL : KERNEL_DOES_IT;
+}
+
 /* Handlers of calls whose first argument is a socket of the layer, and of other calls. */
 static handler *const socket_handlers[MOST_NUMBERS] = {
     [SYS_read] = serve_recv, [SYS_readv] = serve_recv, [SYS_recvfrom] = serve_recv,
@@ -28,7 +34,8 @@ static handler *const socket_handlers[MOST_NUMBERS] = {
     [SYS_accept4] = serve_accept, [SYS_shutdown] = serve_shutdown, [SYS_getsockname] = serve_name,
     [SYS_getpeername] = serve_name, [SYS_getsockopt] = serve_option,
     [SYS_setsockopt] = serve_option, [SYS_ioctl] = refuse, [SYS_sendfile] = refuse,
-    [SYS_sendmmsg] = refuse, [SYS_recvmmsg] = refuse,
+    [SYS_sendmmsg] = refuse, [SYS_recvmmsg] = refuse, [SYS_preadv2] = refuse,
+    [SYS_pwritev2] = refuse,
 };
 static handler *const handlers[MOST_NUMBERS] = {
     [SYS_socket] = serve_socket, [SYS_socketpair] = serve_socket, [SYS_close] = serve_close,
@@ -39,7 +46,7 @@ static handler *const handlers[MOST_NUMBERS] = {
     [SYS_setgid] = serve_change, [SYS_setreuid] = serve_change, [SYS_setregid] = serve_change,
     [SYS_setresuid] = serve_change, [SYS_setresgid] = serve_change, [SYS_prlimit64] = serve_limit,
     [SYS_setrlimit] = refuse, [SYS_io_uring_setup] = refuse, [SYS_io_setup] = refuse,
-    [SYS_preadv2] = refuse, [SYS_pwritev2] = refuse, [SYS_splice] = refuse,
+    [SYS_splice] = refuse, [SYS_sendfile] = serve_sendfile, [SYS_unshare] = serve_unshare,
     [SYS_close_range] = refuse, [SYS_pidfd_getfd] = refuse,
 };
 
@@ -125,7 +132,8 @@ void rerun_woken_calls(void) {
 static void serve_call(const struct seccomp_notif *notif) {
     if (!is_alone) forget_ended(); /* A caller may have waited for a child that was killed. */
     struct call call = {.id = notif->id, .number = notif->data.nr, .tid = (pid_t)notif->pid,
-                        .fd = (uint32_t)notif->data.args[0], .process = process_of(notif->pid)};
+                        .fd = (uint32_t)notif->data.args[0]};
+    call.process = process_of(call.tid);
     memcpy(call.args, notif->data.args, sizeof call.args);
     if (call.process != NULL) call.pid = call.process->pid;
     counts.calls++;

@@ -55,18 +55,21 @@ static long read_message(struct call *call) {
         long result = read_parts(call);
         if (result < 0) return result;
     } else {
-        message.parts[0] = (struct iovec){header->msg_iov, header->msg_iovlen & INT_MAX};
+        message.parts[0] = (struct iovec){header->msg_iov, header->msg_iovlen};
         header->msg_iovlen = 1;
-        header->msg_namelen = call->number == SYS_sendto && call->args[4] ? call->args[5] : 0;
+        bool has_name = call->number == SYS_sendto && call->args[4] != 0;
+        header->msg_namelen = has_name ? (socklen_t)call->args[5] : 0;
     }
     for (struct iovec *it = message.parts; it < message.parts + header->msg_iovlen; it++) {
         size_t skipped = moved < it->iov_len ? moved : it->iov_len;
-        *it = (struct iovec){(char *)it->iov_base + skipped, it->iov_len - skipped};
+        size_t left = it->iov_len - skipped, most = INT_MAX - message.total;
+        if (it->iov_len > SSIZE_MAX) return -EINVAL;
+        *it = (struct iovec){(char *)it->iov_base + skipped, left < most ? left : most};
         moved -= skipped;
         message.total += it->iov_len;
     }
     message.length = message.total < JW_MAX_BYTES ? message.total : JW_MAX_BYTES;
-    return message.total <= SSIZE_MAX ? 0 : -EINVAL;
+    return 0;
 }
 
 /* Finds the descriptors and the credentials that go with a message. */

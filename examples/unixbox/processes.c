@@ -152,6 +152,12 @@ long serve_fork(struct call *call) {
     return KERNEL_DOES_IT;
 }
 
+/* Threads share their table for good. */
+long serve_unshare(struct call *call) {
+    bool is_left = (call->args[0] & CLONE_FILES) && call->process->has_threads;
+    return is_left ? -EINVAL : KERNEL_DOES_IT;
+}
+
 /* exec(2), setuid(2) and the like, and exit_group(2), after which other threads may still call. */
 long serve_change(struct call *call) {
     call->process->has_changed = true;
@@ -162,10 +168,13 @@ long serve_change(struct call *call) {
 /* prlimit(2) of RLIMIT_NOFILE, which is also what setrlimit(3) calls. */
 long serve_limit(struct call *call) {
     struct process *process = call->args[0] ? process_by((pid_t)call->args[0]) : call->process;
-    struct rlimit limit = {0, 0};
+    struct rlimit limit = {0, 0}, old = {0, 0};
     bool is_set = read_memory(call, &limit, call->args[2], sizeof limit);
     if (call->args[1] != RLIMIT_NOFILE || process == NULL || !is_set) return KERNEL_DOES_IT;
     if (limit.rlim_cur > JW_MAX_NOFILE) return -EPERM;
+    prlimit(process->tgid, RLIMIT_NOFILE, NULL, &old);
+    bool is_raised = limit.rlim_max > old.rlim_max && geteuid() != 0;
+    if (limit.rlim_cur > limit.rlim_max || is_raised) return KERNEL_DOES_IT; /* It refuses. */
     sync_table(process); /* The layer opens nothing above a lower limit. */
     int64_t answer = jw_limit(&engine, process->pid, (uint32_t)limit.rlim_cur);
     long result = record(process->pid, answer, "limit %lu", limit.rlim_cur);

@@ -22,7 +22,7 @@ long serve_socket(struct call *call) {
     if (options.networks) setns(call->process->pidfd, CLONE_NEWNET); /* To be counted there. */
     long result = is_pair ? socketpair(AF_UNIX, flags | SOCK_CLOEXEC, 0, hosts)
                           : (hosts[0] = socket(AF_UNIX, flags | SOCK_CLOEXEC, 0));
-    if (result < 0) return -ENFILE; /* The supervisor has no descriptor left. */
+    if (result < 0) return errno == EMFILE ? -ENFILE : -errno; /* Of the supervisor, EMFILE. */
     sync_table(call->process);
     struct jw_pair pair = {0, 0};
     int64_t answer = is_pair ? jw_pair(&engine, call->pid, kind, &pair)
@@ -188,7 +188,7 @@ long serve_connect(struct call *call) {
 long serve_accept(struct call *call) {
     int flags = call->number == SYS_accept4 ? (int)call->args[3] : 0;
     struct pollfd ask = {call->file->host, POLLIN, 0};
-    if (call->file->shut & 1) return -EINVAL;
+    if ((call->file->shut & 1) || (flags & ~(SOCK_CLOEXEC | SOCK_NONBLOCK))) return -EINVAL;
     sync_table(call->process);
     long result = record(call->pid, jw_accept(&engine, call->pid, call->fd), "accept %u", call->fd);
     if (result < 0) return result == -EAGAIN ? wait_for(call, 0, call->file->ino) : result;
