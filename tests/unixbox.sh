@@ -20,7 +20,7 @@ chmod 755 "$room"
 cc=${CC:-cc}
 checks="-std=c11 -O1 -g -Wall -Wextra -Werror"
 sanitizers="-fsanitize=address,undefined -fno-sanitize-recover=all"
-# ETOOMANYREFS spares the privileged, so the program in C runs as a user of its own.
+# Much is allowed to the privileged alone, so some programs run as a user of their own.
 user=
 if [ "$(id -u)" = 0 ]; then
     user="setpriv --reuid $((60000 + $$ % 5000)) --regid 60000 --clear-groups"
@@ -51,10 +51,12 @@ same() {
 
 # Runs the programs under a build of unixbox.
 plays() {
-    same "$1" "$user" "$room/descriptors"
-    same "$1" "" "$room/waits"
-    same "$1" "" "$room/processes"
-    same "$1" "$user" "$room/arguments"
+    for name in descriptors arguments senders; do
+        same "$1" "$user" "$room/$name"
+    done
+    for name in waits processes; do
+        same "$1" "" "$room/$name"
+    done
     same "$1" "" python3 tests/unixbox/descriptors.py
     if timeout 60 "$1" --gc=none -- "$room/descriptors" cycle > "$room/layer" 2> "$room/said"; then
         fails "a cycle is freed with --gc=none"
@@ -62,7 +64,7 @@ plays() {
     echo "unixbox: the programs passed$2"
 }
 
-for name in notification descriptors waits processes arguments cost; do
+for name in notification descriptors arguments senders waits processes cost; do
     $cc $checks -pedantic "tests/unixbox/$name.c" -o "$room/$name" -lpthread
 done
 if ! $user "$room/notification" 2> "$room/why"; then

@@ -12,6 +12,7 @@ static struct message {
     int flags;
     uint32_t fds[JW_MAX_FD];
     struct ucred user; /* SCM_CREDENTIALS */
+    bool is_end;       /* Nothing is left, and nobody sends more. */
 } message;
 static uint8_t bytes[JW_MAX_BYTES];
 static _Alignas(struct cmsghdr) char control[MOST_CONTROL];
@@ -90,7 +91,9 @@ static long read_control(const struct call *call) {
             return -EINVAL;
         }
     }
-    return message.user.pid == call->process->tgid || geteuid() == 0 ? 0 : -EPERM;
+    const struct ucred *own = &call->process->status.user, *user = &message.user;
+    bool is_own = user->pid == own->pid && user->uid == own->uid && user->gid == own->gid;
+    return is_own || geteuid() == 0 ? 0 : -EPERM;
 }
 
 /* Copies the plain files that a message sends, for its receiver. */
@@ -132,34 +135,47 @@ long serve_send(struct call *call) {
     if (result < 0) return result;
     for (size_t i = 0; i < message.fd_count; i++)
         file_of(process, message.fds[i])->sender = process->status;
-    peer->last = message.user;
+    peer->senders[(peer->taken + state_of(peer->ino).messages - 1) % JW_MAX_MESSAGES] =
+        message.user;
     refresh(peer);
     call->moved += (size_t)result;
     call->room = 0; /* Descriptors go with the first part. */
     return is_stream && (size_t)result < message.total ? serve_send(call) : result;
 }
 
-/* Receives into the caller's places, with at most so many descriptors. */
+/* Receives into the caller's places, with at most so many descriptors. A packet of which the caller
+ * asks for the length, or has no room for a byte, is received whole. */
 static long take(struct call *call, size_t room) {
-    const struct file *file = call->file, *peer = peer_of(file);
-    bool peeks = message.flags & MSG_PEEK;
+    struct file *file = call->file;
+    const struct file *peer = peer_of(file);
+    bool peeks = message.flags & MSG_PEEK, tells_length = message.flags & MSG_TRUNC;
+    bool is_packet = file->kind == JW_SEQPACKET;
+    size_t length = is_packet && (tells_length || message.length == 0) ? JW_MAX_BYTES
+                                                                       : message.length;
     struct jw_received got = {0, false, false};
-    int64_t answer = (peeks ? jw_peek : jw_recv)(&engine, call->pid, call->fd, bytes,
-                                                   message.length, message.fds, room, &got);
+    uint64_t waiting = state_of(file->ino).messages;
+    int64_t answer = (peeks ? jw_peek : jw_recv)(&engine, call->pid, call->fd, bytes, length,
+                                                   message.fds, room, &got);
     long result = record(call->pid, answer, "%s %u %zu %zu", peeks ? "peek" : "recv", call->fd,
-                         message.length, room);
+                         length, room);
+    message.is_end = result <= 0;
+    message.user = result > 0 ? file->senders[file->taken % JW_MAX_MESSAGES] : (struct ucred){0};
     if (result == -EAGAIN && ((file->shut & 1) || (peer != NULL && (peer->shut & 2)))) return 0;
     if (result == -EAGAIN) return wait_for(call, message.flags, file->ino);
     if (result < 0) return file->kind == JW_STREAM && result == -ENOTCONN ? -EINVAL : result;
+    file->taken += waiting - state_of(file->ino).messages;
     is_collection_due = is_collection_due || got.ctrunc;
+    size_t fitting = (size_t)result < message.length ? (size_t)result : message.length;
+    got.trunc = got.trunc || fitting < (size_t)result;
     message.header.msg_flags |= (got.trunc ? MSG_TRUNC : 0) | (got.ctrunc ? MSG_CTRUNC : 0);
     long installed = install(call, message.fds, got.fds, message.flags & MSG_CMSG_CLOEXEC);
     message.fd_count = installed > 0 ? (size_t)installed : 0;
     message.header.msg_flags |= message.fd_count < got.fds ? MSG_CTRUNC : 0;
-    struct iovec here = {bytes, (size_t)result};
+    struct iovec here = {bytes, fitting};
     unsigned long count = message.header.msg_iovlen;
-    if (process_vm_writev(call->tid, &here, 1, message.parts, count, 0) != result) return -EFAULT;
-    return result;
+    if (process_vm_writev(call->tid, &here, 1, message.parts, count, 0) != (ssize_t)fitting)
+        return -EFAULT;
+    return is_packet && tells_length ? result : (long)fitting;
 }
 
 /* Adds a control message, if there is room for it. Returns the length of all. */
@@ -174,20 +190,30 @@ static size_t add_control(size_t used, int type, const void *data, size_t size) 
     return used + CMSG_SPACE(size);
 }
 
-/* Writes what a receive tells beside its bytes. The name of a peer is not among it. */
+/* Writes the name of the sender where a receive asks for it. It is empty where there is none. */
+static void write_sender(const struct call *call) {
+    const struct address nobody = {.length = 0}, *peer = &call->file->peer;
+    bool has_name = !message.is_end && peer->length > sizeof peer->name.sun_family;
+    bool has_header = message.at != 0;
+    uint64_t at = has_header ? (uint64_t)message.header.msg_name : call->args[4];
+    uint64_t length_at = has_header ? message.at + offsetof(struct msghdr, msg_namelen)
+                                    : call->args[5];
+    if (at != 0 && (has_header || call->number == SYS_recvfrom))
+        write_address(call, at, length_at, has_name ? peer : &nobody);
+}
+
+/* Writes what a receive by a msghdr tells beside its bytes. */
 static void write_header(const struct call *call, bool has_user) {
+    const size_t start = offsetof(struct msghdr, msg_controllen);
     struct msghdr *header = &message.header;
     size_t used = 0;
-    if (call->number == SYS_recvfrom) write_memory(call, call->args[5], &(int){0}, sizeof(int));
     if (message.at == 0) return;
-    if (has_user)
-        used = add_control(used, SCM_CREDENTIALS, &call->file->last, sizeof(struct ucred));
+    if (has_user) used = add_control(used, SCM_CREDENTIALS, &message.user, sizeof message.user);
     if (message.fd_count > 0)
         used = add_control(used, SCM_RIGHTS, message.fds, message.fd_count * sizeof(int));
     header->msg_controllen = used < header->msg_controllen ? used : header->msg_controllen;
-    header->msg_namelen = 0;
     write_memory(call, (uint64_t)header->msg_control, control, header->msg_controllen);
-    write_memory(call, message.at, header, sizeof *header);
+    write_memory(call, message.at + start, (char *)header + start, sizeof *header - start);
 }
 
 long serve_recv(struct call *call) {
@@ -195,8 +221,10 @@ long serve_recv(struct call *call) {
     socklen_t size = sizeof has_user;
     long result = read_message(call);
     bool peeks = message.flags & MSG_PEEK;
+    bool takes_empty = call->file->kind == JW_SEQPACKET && call->number != SYS_read &&
+                       call->number != SYS_readv;
     if (result == 0 && (message.flags & MSG_OOB)) result = -EINVAL;
-    if (result < 0 || message.total == 0) return result;
+    if (result < 0 || (message.total == 0 && !takes_empty)) return result;
     message.header.msg_flags = message.flags & MSG_CMSG_CLOEXEC;
     getsockopt(call->file->host, SOL_SOCKET, SO_PASSCRED, &has_user, &size);
     size_t room = message.header.msg_controllen, other = CMSG_LEN(0) + (has_user ? USER_SPACE : 0);
@@ -204,6 +232,7 @@ long serve_recv(struct call *call) {
     if (room > 0) sync_table(call->process);
     result = take(call, room < JW_MAX_FD ? room : JW_MAX_FD);
     if (result < 0) return result;
+    write_sender(call);
     write_header(call, has_user);
     call->moved += peeks ? 0 : (size_t)result;
     bool waits_for_all = (message.flags & MSG_WAITALL) && call->file->kind == JW_STREAM && !peeks;

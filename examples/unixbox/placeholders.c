@@ -11,7 +11,7 @@ void *copy_of(const void *value, size_t size) {
     return memcpy(copy, value, size);
 }
 
-static struct jw_file state_of(uint64_t ino) {
+struct jw_file state_of(uint64_t ino) {
     struct jw_file state;
     jw_file(&engine, ino, &state);
     return state;

@@ -3,6 +3,9 @@
 
 enum { TOKEN = 768 }; /* What a byte takes of a buffer (SIOCOUTQ). */
 enum { KEY_ROOM = JW_MAX_NAME + 1, PATH_START = offsetof(struct sockaddr_un, sun_path) };
+enum { PASS_PIDFD = 76, PEER_PIDFD = 77 }; /* SO_PASSPIDFD and SO_PEERPIDFD of Linux 6.5. */
+
+static const struct address unnamed = {{.sun_family = AF_UNIX}, PATH_START};
 
 /* A socket is writable while at most a quarter of twice this number is taken. */
 static void size_buffer(int host) {
@@ -36,6 +39,7 @@ long serve_socket(struct call *call) {
     for (size_t i = 0; i < count; i++) {
         struct file *file = file_of(call->process, fds[i]);
         file->owner = call->process->status.user;
+        if (is_pair) file->peer = unnamed;
         size_buffer(file->host = hosts[i]);
     }
     result = install(call, fds, count, flags & SOCK_CLOEXEC);
@@ -83,15 +87,14 @@ static long find_key(struct name *name, uint32_t kind) {
     return S_ISSOCK(file.st_mode) ? 0 : -ECONNREFUSED;
 }
 
-/* Writes the name of a socket, which is empty where there is no socket or no name. */
-static void write_address(const struct call *call, uint64_t at, uint64_t length_at,
-                          const struct file *file) {
-    struct address none = {{.sun_family = AF_UNIX}, PATH_START};
-    const struct address *address = file != NULL && file->own.length > 0 ? &file->own : &none;
-    socklen_t room;
-    if (at == 0 || !read_memory(call, &room, length_at, sizeof room)) return;
-    write_memory(call, at, &address->name, room < address->length ? room : address->length);
-    write_memory(call, length_at, &address->length, sizeof address->length);
+/* Writes a name as far as there is room, and its length. */
+long write_address(const struct call *call, uint64_t at, uint64_t length_at,
+                   const struct address *address) {
+    socklen_t length = address->length, room;
+    if (!read_memory(call, &room, length_at, sizeof room)) return -EFAULT;
+    if (room > INT_MAX) return -EINVAL;
+    return write_memory(call, at, &address->name, room < length ? room : length) &&
+           write_memory(call, length_at, &length, sizeof length) ? 0 : -EFAULT;
 }
 
 long serve_bind(struct call *call) {
@@ -117,15 +120,20 @@ long serve_bind(struct call *call) {
     int64_t answer = jw_bind(&engine, call->pid, call->fd, name.key, strlen(name.key));
     result = record(call->pid, answer, "bind %u %s", call->fd, name.key);
     if (result == 0) call->file->own = name.address;
-    if (result < 0 && name.path[0] != '\0') unlink(name.path);
+    if (result < 0 && name.path[0] != '\0') {
+        unlink(name.path);
+        close(call->file->path);
+        call->file->path = -1;
+    }
     return result;
 }
 
 long serve_name(struct call *call) {
-    const struct file *file = call->number == SYS_getsockname ? call->file : peer_of(call->file);
-    if (file == NULL) return -ENOTCONN;
-    write_address(call, call->args[1], call->args[2], file);
-    return 0;
+    const struct file *file = call->file;
+    const struct address *own = file->own.length > 0 ? &file->own : &unnamed;
+    bool is_peer = call->number == SYS_getpeername;
+    if (is_peer && file->peer.length == 0) return -ENOTCONN;
+    return write_address(call, call->args[1], call->args[2], is_peer ? &file->peer : own);
 }
 
 /* getsockopt(2) and setsockopt(2). Placeholders keep their buffers. */
@@ -136,7 +144,7 @@ long serve_option(struct call *call) {
     int option = (int)call->args[2];
     socklen_t room = 0;
     if (is_set && (option == SO_SNDBUF || option == SO_SNDBUFFORCE)) return 0;
-    if (option == SO_PEEK_OFF) return -ENOPROTOOPT;
+    if (option == SO_PEEK_OFF || option == PASS_PIDFD || option == PEER_PIDFD) return -ENOPROTOOPT;
     if (option != SO_PEERCRED) return KERNEL_DOES_IT;
     read_memory(call, &room, call->args[4], sizeof room);
     if (room != sizeof owner) return -EINVAL;
@@ -179,7 +187,8 @@ long serve_connect(struct call *call) {
     connect(client->host, (struct sockaddr *)&host, length);
     struct file *embryo = peer_of(client);
     embryo->is_embryo = true;
-    embryo->own = listener->own;
+    embryo->own = client->peer = listener->own;
+    embryo->peer = client->own.length > 0 ? client->own : unnamed;
     embryo->owner = listener->owner;
     client->owner = call->process->status.user;
     return 0;
@@ -199,7 +208,7 @@ long serve_accept(struct call *call) {
         size_buffer(file->host = accept4(ask.fd, NULL, NULL, flags | SOCK_CLOEXEC));
     result = install(call, &fd, 1, flags & SOCK_CLOEXEC);
     if (result < 0) return result;
-    write_address(call, call->args[1], call->args[2], peer_of(file));
+    if (call->args[1] != 0) write_address(call, call->args[1], call->args[2], &file->peer);
     return fd;
 }
 

@@ -76,8 +76,10 @@ struct file {
     struct address {
         struct sockaddr_un name;
         socklen_t length; /* 0 where there is none. */
-    } own;
-    struct ucred owner, last; /* For SO_PEERCRED at its peer; who sent to this socket last. */
+    } own, peer;          /* Its name; that of its peer, also after the end of that. */
+    struct ucred owner;   /* For SO_PEERCRED at its peer. */
+    struct ucred senders[JW_MAX_MESSAGES]; /* Who sent the messages in its queue: a ring. */
+    uint64_t taken;       /* How many messages have left the queue. */
     struct status sender; /* Who sent this file last. */
     uint64_t places;      /* How many places in tables a recount finds. */
     LIST_ENTRY(file) entries;
@@ -125,6 +127,7 @@ void forget_process(struct process *process);
 bool forget_ended(void);
 
 void *copy_of(const void *value, size_t size);
+struct jw_file state_of(uint64_t ino);
 struct file *file_at(uint64_t ino);
 struct file *file_of(const struct process *process, uint64_t fd);
 struct file *peer_of(const struct file *file);
@@ -132,6 +135,9 @@ void free_file(struct file *file);
 void close_spare_placeholder(struct file *file);
 void reopen_placeholder(struct file *file);
 void refresh(struct file *file);
+
+long write_address(const struct call *call, uint64_t at, uint64_t length_at,
+                   const struct address *address);
 
 void sync_table(struct process *process);
 long install(struct call *call, uint32_t *fds, size_t count, bool closes_on_exec);
