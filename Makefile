@@ -1,21 +1,21 @@
 # make           print this list
-# make try       show the example script, or that of SCRIPT=FILE, with its answers, by an unproved program: out/unproved/scmgc, in a minute or two
+# make try       build the program without proofs, out/unproved/scmgc, in a minute or two, and play SCRIPT=FILE or an example
 # make run       prove and build the program, and play the example script: half an hour on four cores
 # make build     prove and build the program alone: crates/scmgc/out/scmgc
 # make check     before a commit: compare events and the header, prove what has changed and all above it, play the cases
 # make bindings  write the header, its manual page and the bindings for Rust, after a change of a call, an error or a limit
-# make test      the gate: proofs from nothing, tests, cases, C and Rust, walks, wrong bodies: an hour on four cores
+# make test      the gate: proofs from nothing, all tests, wrong bodies: half an hour to an hour on four cores
 # make walks     random scripts and edited lines by the proved program, compared with a plain engine and a reader in Python
 # make stress    each request for memory refused in turn, and the largest worlds, by the proved program and tests
 # make bench     nanoseconds for each event, over named workloads, and calls a second from threads
-# make try-lib   build the library for C and Rust programs without proofs, to try it: out/unproved/libjaywardrobe.a, in a minute or two
-# make lib       prove and build the library for C and Rust programs, with all that it needs: out/libjaywardrobe.a
+# make try-lib   build the library for C and Rust without proofs, out/unproved/libjaywardrobe.a, in a minute or two
+# make lib       prove and build the library for C and Rust: out/libjaywardrobe.a, half an hour on four cores
 # make archive   put that library together once more, over what make lib proved
-# make embed     compare its header with it, and run the programs in C and Rust that use it
-# make bench-c   nanoseconds for each call from C, over two of the workloads
+# make embed     make lib, then compare its header with it, and run the programs in C and Rust that use it
+# make bench-c   nanoseconds for each call from C, over two of the workloads, by the library proved or not
 # make unixbox   build the supervisor that runs programs on the library, proved or not: out/unixbox
 # make clients   run test suites of others natively and under unixbox, and compare: half an hour
-# make install   put the program and the library, as far as they are built, below PREFIX (/usr/local); it builds nothing
+# make install   put the program and the library, as far as they are proved and built, below PREFIX (/usr/local)
 # make uninstall remove them from there
 # make clean     remove all that was built, and the work that checks keep
 
@@ -113,22 +113,28 @@ clients: unixbox
 	$(need) python3
 	tools/clients
 
-bench-c: lib
+# Stops where no library is built.
+need_library = @test -n '$(at_hand)' || \
+	{ echo 'make $@: no library is built: run make lib, or make try-lib for an unproved one' >&2; exit 2; }
+
+bench-c:
 	$(need) $(firstword $(CC))
-	$(CC) -O2 -Iinclude examples/c/bench.c $(LIBRARY) -pthread -o out/bench_c
+	$(need_library)
+	$(CC) -O2 -Iinclude examples/c/bench.c $(at_hand) -pthread -o out/bench_c
+	@echo 'out/bench_c is built over $(at_hand)'
 	out/bench_c
 
 unixbox:
 	$(need) $(firstword $(CC))
-	@test -n '$(at_hand)' || \
-		{ echo 'make unixbox: no library is built: run make lib, or make try-lib for an unproved one' >&2; exit 2; }
+	$(need_library)
 	$(CC) -std=c11 -O2 -Iinclude examples/unixbox/*.c $(at_hand) -o out/unixbox -lpthread
 	@echo 'out/unixbox is built over $(at_hand)'
 
-# Proves and builds nothing, so that root may run it.
+# It proves and builds nothing, so that root may run it.
 install:
 	@test -f $(PROGRAM) || test -f $(LIBRARY) || \
-		{ echo 'make install: nothing is built: run make build for the program, make lib for the library' >&2; exit 2; }
+		{ echo 'make install: nothing is proved and built: run make build, make lib, or name what make try built:' >&2; \
+		echo 'make install PROGRAM=$(TRIED) LIBRARY=$(UNPROVED)' >&2; exit 2; }
 	@if test -f $(PROGRAM); then $(MAKE) --no-print-directory install-program; \
 		else echo 'make install: there is no program to install: make build builds it'; fi
 	@if test -f $(LIBRARY); then $(MAKE) --no-print-directory install-library; \
