@@ -3,7 +3,7 @@
 # usage: tests/unixbox.sh out/libjaywardrobe.a
 #
 # Builds examples/unixbox, and runs the programs of tests/unixbox natively and under it: by slices of
-# one file and by whole passes, with all places recounted and checked after each step. The outputs
+# one file and by whole passes, with all places recounted and checked after each call. The outputs
 # are the same, and unixbox finds nothing wrong. With the collector off, the check of a cycle fails.
 # All of it is done again with unixbox under the sanitizers. What cannot be run here is left out,
 # with a line that says so. The first that fails ends the script.

@@ -29,12 +29,15 @@ long record(uint32_t pid, int64_t answer, const char *line, ...) {
     return answer >= 0 ? answer : -jw_errno(answer);
 }
 
-/* Recounts after a step: the places of each file from all tables, and all by the layer. */
+/* Recounts what was done since the last look: the places of each file, and all by the layer. */
 static void inspect(void) {
+    static uint64_t inspected; /* How many steps there were at the last look. */
     struct jw_checked checked = {0, 0};
     uint64_t ino = 0, refs, inflight;
     struct process *it;
+    if (counts.steps == inspected) return;
     if (options.checks) counts.failed_checks += record(0, jw_check(&engine, &checked), "check") < 0;
+    inspected = counts.steps;
     if (!options.verifies) return;
     LIST_FOREACH(it, &processes, entries)
         for (int64_t fd = 0; (fd = jw_next_fd(&engine, it->pid, (uint32_t)fd, &ino)) >= 0; fd++)
@@ -60,7 +63,7 @@ static void note_leak(const struct file *file) {
     leaks[i].count[file->kind == JW_PLAIN]++;
 }
 
-/* Frees what the last step freed, or collected, and refreshes and wakes what it changed. */
+/* Frees what the last call or the collector freed, refreshes and wakes what changed, recounts. */
 void settle(bool is_collected) {
     static uint64_t inos[JW_MAX_FILES];
     int64_t freed = jw_released(&engine, inos, JW_MAX_FILES);
@@ -76,8 +79,7 @@ void settle(bool is_collected) {
         wake(inos[i]);
         if (peer != NULL) wake(peer->ino);
     }
-    if (freed + changed == 0) return;
-    jw_clear_told(&engine);
+    if (freed + changed > 0) jw_clear_told(&engine);
     inspect();
 }
 

@@ -7,6 +7,19 @@
 
 enum { TICK = 10, TICK_SLICES = 256, THREADS = 4, FAILED = 125 }; /* A tick is 10 ms. */
 
+static const char usage[] =
+    "usage: unixbox [OPTION ..] PROGRAM [ARGUMENT ..]\n"
+    "Runs a program, and all that it forks, with its AF_UNIX sockets on the layer.\n\n"
+    "  --gc slice|pass|none  collect by slices (as without this), by whole passes, or at the end\n"
+    "  --budget FILES        how many files a slice looks at, 1 to 65536; 4 without this\n"
+    "  --graph FILE          write a picture of what is left, for Graphviz\n"
+    "  --script FILE         write all steps as a script of scmgc\n"
+    "  --verify              after each call recount the references to each file\n"
+    "  --check               after each call let the layer check all that it keeps\n"
+    "  --dgram               serve pairs of datagram sockets as seqpackets\n"
+    "  --oob                 ignore MSG_OOB on streams\n"
+    "  --procnet             show sockets in the program's /proc/net/unix\n";
+
 struct options options = {.collector = COLLECT_SLICES, .budget = 4};
 int watches;
 static int program, status; /* Its pid and its status. */
@@ -19,11 +32,16 @@ static int read_options(int argc, char **argv) {
         {"script", required_argument, NULL, 's'}, {"graph", required_argument, NULL, 'p'},
         {"verify", no_argument, &options.verifies, 1}, {"check", no_argument, &options.checks, 1},
         {"dgram", no_argument, &options.datagrams, 1}, {"oob", no_argument, &options.oob, 1},
-        {"procnet", no_argument, &options.networks, 1}, {NULL, 0, NULL, 0}};
+        {"procnet", no_argument, &options.networks, 1}, {"help", no_argument, NULL, 'h'},
+        {NULL, 0, NULL, 0}};
     char *value;
     bool is_known = true;
     for (int option; (option = getopt_long(argc, argv, "+", names, NULL)) != -1;) {
         if (option == 'g') options.collector = getsubopt(&optarg, collectors, &value);
+        if (option == 'h') {
+            fputs(usage, stdout);
+            exit(0);
+        }
         if (option == 'b') options.budget = (uint32_t)strtoul(optarg, NULL, 10);
         FILE **output = option == 's' ? &options.script : option == 'p' ? &options.graph : NULL;
         if (output != NULL && (*output = fopen(optarg, "we")) == NULL) err(FAILED, "%s", optarg);
@@ -31,8 +49,7 @@ static int read_options(int argc, char **argv) {
     }
     if (is_known && options.budget >= 1 && options.budget <= JW_MAX_BUDGET && optind < argc)
         return optind;
-    fputs("usage: unixbox [--gc slice|pass|none] [--budget FILES] [--verify] [--check] [--dgram]\n"
-          "  [--oob] [--procnet] [--script FILE] [--graph FILE] PROGRAM [ARGUMENT ..]\n", stderr);
+    fputs(usage, stderr);
     exit(FAILED);
 }
 

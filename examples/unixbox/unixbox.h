@@ -35,7 +35,7 @@ enum { KERNEL_DOES_IT = -100001, CALL_WAITS = -100002, EVERYONE = 0, FILE_SLOTS 
 extern struct options {
     enum { COLLECT_NEVER, COLLECT_SLICES, COLLECT_PASSES } collector;
     uint32_t budget;                       /* Of a slice, in files. */
-    int verifies, checks;                  /* Whether all is recounted after each step. */
+    int verifies, checks;                  /* Whether all is recounted after each call. */
     int datagrams, oob, networks;          /* What is served beside the usual. */
     FILE *script, *graph;                  /* Where steps and the picture go, or NULL. */
 } options;
