@@ -16,20 +16,23 @@
  * Every call answers 0 or more, or a negative error: the negative of one of `enum jw_error`. After
  * an error the engine is as it was, and nothing was written to the caller's places. jw_engine_new
  * alone differs: an engine that was in the handle is freed, also where the new one is refused.
- *
  * Where several errors fit, the first of those that a call lists here is answered.
  *
- * The caller owes what no call can test. A pointer may be null where its length is 0, and where
- * jw_engine_free gets it; no other is. Each is aligned, and points to as much as its type and its
- * length say; no two of one call overlap. A bool is 0 or 1. A handle is set by JW_ENGINE_INIT and
- * then written by the calls alone: it is not copied and not changed. A call with a const handle
- * does not change the engine, but it writes to the handle, so the handle is no const object.
- *
- * A handle is for any thread, with one call at a time: each call on it happens before the next, by
- * a lock, by the start or join of a thread, or by a sequentially consistent atomic.
- * jaywardrobe_shared.h has such a lock. No call is made from a signal handler, and none in the
- * child of a fork(2) of a process that had threads. malloc, realloc and free are one allocator, and
- * align a block to each power of two up to 16 that divides its size.
+ * The caller owes what no call can test:
+ * - A pointer may be null where its length is 0, and where jw_engine_free gets it. No other is.
+ * - Each pointer is aligned, and points to as much as its type and its length say. No two of one
+ *   call overlap.
+ * - A bool is 0 or 1.
+ * - A handle is set by JW_ENGINE_INIT and then written by the calls alone. It is not copied. A call
+ *   with a const handle does not change the engine, but it writes to the handle, so the handle is
+ *   no const object.
+ * - Any thread may use a handle, with one call at a time. Each call on it happens before the next:
+ *   by a lock as that of jaywardrobe_shared.h, by the start or join of a thread, or by a
+ *   sequentially consistent atomic.
+ * - No call is made from a signal handler, and none in the child of a fork(2) of a process that had
+ *   threads.
+ * - malloc, realloc and free are one allocator. They align a block to each power of two up to 16
+ *   that divides its size.
  */
 #ifndef JAYWARDROBE_H
 #define JAYWARDROBE_H
