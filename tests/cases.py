@@ -63,7 +63,7 @@ def main() -> int:
     form.add_argument("--program", default=f"{ROOT}/crates/scmgc/out/scmgc", help="another build of scmgc")
     path = form.parse_args().program
     if not os.access(path, os.X_OK):
-        print(f"{path} is not built: run make build", file=sys.stderr)
+        print(f"{path} is not built: run make build, or make try, and --program out/unproved/scmgc", file=sys.stderr)
         return 2
     results = [is_right for build in builds(path) for is_right in tried(build)]
     print(f"{sum(results)} passed, {len(results) - sum(results)} failed")

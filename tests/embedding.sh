@@ -14,7 +14,7 @@ if [ $# -ne 1 ]; then
     exit 2
 fi
 if [ ! -f "$1" ]; then
-    echo "tests/embedding.sh: $1 is not built: run make lib, or make embed for both" >&2
+    echo "tests/embedding.sh: $1 is not built: run make embed, or make try-lib for out/unproved/libjaywardrobe.a" >&2
     exit 2
 fi
 library=$(cd "$(dirname "$1")" && pwd)/$(basename "$1")
