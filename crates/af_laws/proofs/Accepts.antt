@@ -11,7 +11,7 @@ use Rattle.af_base.specs.declared.events.Reply.{Reply}
 use Rattle.af_base.specs.declared.events.Reply.TheVariants as reply
 use Rattle.af_base.specs.declared.events.Step.TheVariants as step
 use Rattle.af_base.specs.World.{AsSocket, File, Message, Socket, World, is_live}
-use Rattle.af_base.specs.Places.{attached_in, backlog_of, contents, queue_of, table_at}
+use Rattle.af_base.specs.Places.{attached_in, backlog_at, backlog_of, contents, queue_of, table_at}
 use Rattle.af_base.specs.Counts.{charge, charged, count_in, inflight, one, refs, total, total_of, waiting}
 use Rattle.af_base.specs.Unheld.{IsSettled}
 use Rattle.af_base.specs.Changes.{add_file, connected, dequeued, file_with, queued, with_socket}
@@ -235,6 +235,9 @@ module _ (w : World) (p n : ℕ) (sound : IsSound w) (fits : refusal w p (step.A
     waits_less : (f : ℕ) → waiting accepted f + one f (first_embryo w p n) ≡ waiting w f
     waits_less f = omega (arith, total-change_at (λ y. count_in f (backlog_of y)) (file_with dequeued) w.files s (AsSocket x) there, count_first f x.backlog row.rest.rest.rest.rest.here)
 
+    rest_waits : backlog_at accepted s ≡ drop 1 (backlog_at w s)
+    rest_waits = ap (λ o. option_map_or backlog_of o []) (there-changed w s dequeued x there) ∙ sym (ap (λ o. drop 1 (option_map_or backlog_of o [])) there)
+
     numbered : table_at accepted p (free_at w p 0) ≡ Some (first_embryo w p n)
     numbered = there-table accepted p (free_at w p 0) _ (there-install (with_socket w s dequeued) p (free_at w p 0) (first_embryo w p n) (process_at w p) at) ∙ insert-here (process_at w p).table (free_at w p 0) (first_embryo w p n)
 
@@ -261,7 +264,10 @@ accept_keeps_references old new p n m f sound h =
 
 pub accept_takes_the_first_embryo : AcceptTakesTheFirstEmbryo
 accept_takes_the_first_embryo old new p n m f sound h =
-    let done = taken old new p n m sound h in ap (λ x. waiting x f + one f (first_embryo old p n)) done.2 ∙ waits_less old p n sound done.0 done.1 f
+    let done = taken old new p n m sound h in (
+      ap (λ x. backlog_at x (ino_on old p n)) done.2 ∙ rest_waits old p n sound done.0 done.1,
+      ap (λ x. waiting x f + one f (first_embryo old p n)) done.2 ∙ waits_less old p n sound done.0 done.1 f,
+    )
 
 pub accepted_number_is_the_embryo : AcceptedNumberIsTheEmbryo
 accepted_number_is_the_embryo old new p n m sound h =

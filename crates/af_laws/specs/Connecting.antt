@@ -1,10 +1,10 @@
 -- Laws of connections: names, listeners, and the embryos that wait in their backlogs.
-use Rattle.std.specs.Prelude.{◌≡◌, ◌↔◌, ℕ, ◌+◌, List, Some}
+use Rattle.std.specs.Prelude.{◌≡◌, ◌↔◌, ℕ, ◌+◌, List, Some, drop}
 use Rattle.af_base.specs.declared.events.Reply.{Reply}
 use Rattle.af_base.specs.declared.events.Reply.TheVariants as reply
 use Rattle.af_base.specs.declared.events.Step.TheVariants as step
 use Rattle.af_base.specs.World.{World, IsLive}
-use Rattle.af_base.specs.Places.{table_at, Holds, InBacklog}
+use Rattle.af_base.specs.Places.{backlog_at, table_at, Holds, InBacklog}
 use Rattle.af_base.specs.Counts.{charged, inflight, one, refs, total, waiting}
 use Rattle.af_base.specs.Names.{named}
 use Rattle.af_base.specs.Refusals.{ino_named, ino_on}
@@ -75,11 +75,13 @@ abbrev pub AcceptKeepsReferences : Type 0
 AcceptKeepsReferences = (old new : World) (p n m f : ℕ) → IsSound old
     → ProcessStep old p (step.Accept n) (reply.Fd m) new → refs new f ≡ refs old f
 
--- An accept removes the first embryo from the backlog, and keeps the others in order.
+-- An accept removes the first embryo from the backlog, and keeps the others in order. Every other
+-- file waits in as many backlog places as before.
 abbrev pub AcceptTakesTheFirstEmbryo : Type 0
 AcceptTakesTheFirstEmbryo = (old new : World) (p n m f : ℕ) → IsSound old
     → ProcessStep old p (step.Accept n) (reply.Fd m) new
-    → waiting new f + one f (first_embryo old p n) ≡ waiting old f
+    → (backlog_at new (ino_on old p n) ≡ drop 1 (backlog_at old (ino_on old p n)))
+    × (waiting new f + one f (first_embryo old p n) ≡ waiting old f)
 
 -- The new descriptor refers to it.
 abbrev pub AcceptedNumberIsTheEmbryo : Type 0

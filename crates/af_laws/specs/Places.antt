@@ -63,7 +63,7 @@ abbrev pub ExitCounts : Type 0
 ExitCounts = (w : World) (p f : ℕ) (q : Process) → map.get w.processes p ≡ Some q
     → refs (remove_process w p) f + total_of (one f) q.table ≡ refs w f
 
--- An exit keeps the charges of messages that are still queued.
+-- An exit keeps the charges of messages, as long as they wait: before files are freed.
 abbrev pub ExitKeepsCharges : Type 0
 ExitKeepsCharges = (w : World) (p u : ℕ) → charged (remove_process w p) u ≡ charged w u
 

@@ -46,7 +46,8 @@ pub fn accept_keeps_references()
     ensures { AcceptKeepsReferences }
 {}
 
-/// An accept removes the first embryo from the backlog, and keeps the others in order.
+/// An accept removes the first embryo from the backlog, and keeps the others in order. Every other
+/// file waits in as many places as before.
 pub fn accept_takes_the_first_embryo()
     ensures { AcceptTakesTheFirstEmbryo }
 {}

@@ -60,7 +60,7 @@ pub fn exit_counts()
     ensures { ExitCounts }
 {}
 
-/// An exit keeps the charges of the messages that the process sent.
+/// An exit keeps the charges of messages, as long as they wait: before files are freed.
 pub fn exit_keeps_charges()
     ensures { ExitKeepsCharges }
 {}
