@@ -67,8 +67,9 @@ pub record IsSweeping (begun now : World) (marked swept : ℕ → Bool) (reclaim
   pub empty : (s f : ℕ) → swept s ≡ true → Holds now s f → ¬ (Garbage begun f)
   pub counted : IsGarbageCount begun (reclaimed + left_count begun now marked)
 
--- Each unit looked at one file of the begin, and no file is visited, scanned or swept twice (this
--- project's profile: what a budget counts).
+-- The units done are at least the live files of the begin that were visited, scanned and swept.
+-- With those that are left they are at most three for each file of the begin (this project's
+-- profile: what a budget counts).
 pub record AreCounted (begun now : World) (visited scanned swept : ℕ → Bool) (looked : ℕ) : Type 0 where
   pub at_least : live_count begun now visited + live_count begun now scanned
       + live_count begun now swept ≤ looked

@@ -195,7 +195,8 @@ impl Layer {
 
 impl Layer<AtCheckpoint> {
     /// Waits for the lock, audits the seats as [`Layer::close`] does, hands over the log and
-    /// empties the list of each seat. The log begins where the last checkpoint ended.
+    /// empties the list of each seat. The log begins where the last checkpoint ended: of that a
+    /// contract says that a legal log leads there.
     ///
     /// The error is what the audit found, and nothing has changed then. A seat that is not at hand
     /// is missing, so no other thread calls meanwhile. It takes no memory. Its cost is linear in
