@@ -1,8 +1,7 @@
 //! An independent recount of an engine.
-ghost use Rattle.std.specs.Prelude.{◌≡◌, ◌⊎◌};
-ghost use Rattle.af_report.specs.Check.{IsChecked};
-ghost use Rattle.scm_c.specs.Calls.{Tells};
-ghost use Rattle.scm_c.specs.Codes.{error_code};
+ghost use Rattle.std.specs.Prelude.{◌≡◌};
+ghost use Rattle.scm_c.specs.Calls.{Asks};
+ghost use Rattle.scm_c.specs.Texts.{IsCheckWritten};
 
 use crate::answers::{NO_ENGINE, refusal};
 use crate::handle::Handle;
@@ -31,8 +30,8 @@ pub struct CChecked {
 #[unsafe(no_mangle)]
 pub extern "C" fn jw_check(alloc: Global, engine: &mut Handle, out: &mut CChecked) -> i64
     ensures same { engine.new.shown ≡ engine.old.shown }
-    ensures value { Tells engine.old.shown (λ m c. IsChecked m.world c.live c.garbage) out.old
-        result out.new ⊎ ((result ≡ error_code Errno.ENOMEM) × (out.new ≡ out.old)) }
+    ensures value { Asks engine.old.shown
+        (λ m r c. IsCheckWritten m.world out.old r c) out.old result out.new }
 {
     let Some(inside) = engine.as_mut() else {
         return NO_ENGINE;
