@@ -71,6 +71,8 @@ impl<T> Owned<T> {
         ensures machine { IfOk result (λ o.
             o.machine ≡ record fresh { since = o.machine.since }) }
         ensures untold { IfOk result (λ o. o.machine.since.changed ≡ false) }
+        ensures emptied { IfOk result (λ o.
+            (o.machine.since.files ≡ map.empty) × (o.machine.since.next ≡ 1)) }
         ensures values { IfOk result (λ o. o.values ≡ map.empty) }
     {
         let mut engine = Engine::new(alloc)?;
@@ -89,6 +91,8 @@ impl<T> Owned<T> {
         ensures machine { IfOk result (λ o.
             o.machine ≡ record fresh { since = o.machine.since }) }
         ensures told { IfOk result (λ o. o.machine.since.changed ≡ true) }
+        ensures emptied { IfOk result (λ o.
+            (o.machine.since.files ≡ map.empty) × (o.machine.since.next ≡ 1)) }
         ensures values { IfOk result (λ o. o.values ≡ map.empty) }
     {
         let mut engine = Engine::new(alloc)?;

@@ -12,6 +12,14 @@ invariant_of-result g c =
     subst (λ l. AreOwned n c.new-2.result.values l) (sym c.new-2.ensures.last)
     (subst (λ vs. AreOwned n vs 0) (sym c.new-2.ensures.values) (subst (λ (m : Machine). AreOwned m map.empty 0) (sym is) (owned-new false)))
 
+pub returns-clause-emptied : goal.returns-clause-emptied
+returns-clause-emptied g c =
+    let told = c.in_ok-tell_released.ensures.ok in
+    let made = c.in_ok-engine.ensures in (
+      ap (λ m. m.since.files) told ∙ ap (λ m. m.world.files) made,
+      ap (λ m. m.since.next) told ∙ ap (λ m. m.world.next_ino) made,
+    )
+
 pub returns-clause-machine : goal.returns-clause-machine
 returns-clause-machine g c =
     let keep = λ (m : Machine). record m { since = c.tell_released.new.self.since } in
