@@ -16,7 +16,7 @@ use Rattle.std.proofs.lemmas.Map.Keys.{IsStrictlyIncreasing-from_sorted}
 use Rattle.std.proofs.lemmas.Map.Lookups.{exact_unsigned}
 use Rattle.std.proofs.lemmas.Map.Views.{btree_set_contains_iff}
 use Rattle.af_base.specs.World.{World, is_live}
-use Rattle.af_base.specs.Places.{Holds, InTable, contents, held_by}
+use Rattle.af_base.specs.Places.{Holds, InTable, contents, held_by, held_in}
 use Rattle.af_base.specs.Counts.{count_in, one, tabled, total_of}
 use Rattle.af_base.specs.Listing.{AreFiles, AreTables, file_of, files_of, inos_of, processes_of}
 use Rattle.af_base.specs.Reached.{BySocket, ByTable, Garbage, Reached}
@@ -27,7 +27,7 @@ use Rattle.af_base.proofs.Lookups.{same_or_not}
 use Rattle.af_base.proofs.PlacesAndCounts.{Contains-count, InTable-tabled, count-Contains, tabled-InTable}
 use Rattle.af_base.proofs.MapsOfLists.{keyed-get}
 use Rattle.af_base.proofs.PlaceLists.{count_tabled}
-use Rattle.af_plain.specs.Marking.{IsListOf, Marks, held_in}
+use Rattle.af_plain.specs.Marking.{IsListOf, Marks}
 use Rattle.af_plain.specs.declared.reach.Marking.{Marking}
 
 -- The files held by the tables of a list are those held by the tables of its world.
@@ -41,11 +41,11 @@ abbrev pub all_held : List ListedFile → List ℕ
 all_held files = flat_map (λ x. contents (file_of x)) files
 
 -- The files held by one of them, as a walk finds it.
-pub held_found : (files : List ListedFile) (s : ℕ) → held_in files s ≡ option_map_or contents (option_map file_of (find (λ x. nat_eq s x.ino) files)) []
+pub held_found : (files : List ListedFile) (s : ℕ) → held_in (files_of files) s ≡ option_map_or contents (option_map file_of (find (λ x. nat_eq s x.ino) files)) []
 held_found files s = ap (λ o. option_map_or contents o []) (keyed-get (λ x. x.ino) file_of files s)
 
 -- It is among all.
-pub held_listed : (files : List ListedFile) (s f : ℕ) → Contains (held_in files s) f → Contains (all_held files) f
+pub held_listed : (files : List ListedFile) (s f : ℕ) → Contains (held_in (files_of files) s) f → Contains (all_held files) f
 held_listed files s f h = walk files (subst (λ xs. Contains xs f) (held_found files s) h) where
   either : (b : Bool) (x : ListedFile) (xs : List ListedFile) → (Contains (option_map_or contents (option_map file_of (find (λ y. nat_eq s y.ino) xs)) []) f → Contains (all_held xs) f)
       → Contains (option_map_or contents (option_map file_of (cond b (Some x) (find (λ y. nat_eq s y.ino) xs))) []) f → Contains (all_held (x ∷ xs)) f

@@ -23,8 +23,8 @@ abbrev pub KeepsTotal : Type 0
 KeepsTotal = (w : World) → total (bare w) ≡ total w
 
 -- A bare world has the live files of the whole one.
-abbrev pub KeepsLive : Type 0
-KeepsLive = (w : World) (f : ℕ) → IsLive (bare w) f ↔ IsLive w f
+abbrev pub KeepsLiveFiles : Type 0
+KeepsLiveFiles = (w : World) (f : ℕ) → IsLive (bare w) f ↔ IsLive w f
 
 -- The same files are reached in a bare world.
 abbrev pub KeepsReached : Type 0

@@ -1,7 +1,7 @@
 //! Laws of bare worlds: what is left out changes no count and no reach, so that a listing that
 //! shows a world bare has the counts and the reach of the whole one.
 ghost use Rattle.af_plain.specs.Laws.{KeepsRefs, KeepsInflight, KeepsCharged, KeepsTotal};
-ghost use Rattle.af_plain.specs.Laws.{KeepsLive, KeepsReached, KeepsGarbage};
+ghost use Rattle.af_plain.specs.Laws.{KeepsLiveFiles, KeepsReached, KeepsGarbage};
 
 /// A bare world has the reference counts of the whole one.
 pub fn bare_keeps_refs()
@@ -25,7 +25,7 @@ pub fn bare_keeps_total()
 
 /// A bare world has the live files of the whole one.
 pub fn bare_keeps_live()
-    ensures { KeepsLive }
+    ensures { KeepsLiveFiles }
 {}
 
 /// The same files are reached in a bare world.

@@ -6,10 +6,10 @@ ghost use Rattle.std.specs.List.{Contains, filter, find};
 ghost use Rattle.std.specs.Ordering.{nat_cmp};
 ghost use Rattle.std.specs.Option.{option_copied};
 ghost use Rattle.std.specs.BTreeSet as tree;
-ghost use Rattle.af_base.specs.Listing.{AreFiles, file_of};
-ghost use Rattle.af_base.specs.Places.{contents, InTable};
+ghost use Rattle.af_base.specs.Listing.{AreFiles, file_of, files_of};
+ghost use Rattle.af_base.specs.Places.{InTable, contents, held_in};
 ghost use Rattle.af_base.specs.Reached.{Reached, Garbage};
-ghost use Rattle.af_plain.specs.Marking.{held_in, Marks, IsListOf};
+ghost use Rattle.af_plain.specs.Marking.{Marks, IsListOf};
 
 use af_base::ids::Ino;
 use af_base::listing::{ListedFile, ListedTable, Listing};
@@ -81,7 +81,7 @@ impl Marking {
     /// Looks at the file: adds the files that it holds.
     fn look_at(&mut self, files: &[ListedFile], ino: Ino) -> Result<(), AllocError>
         requires { AreFiles files.now }
-        ensures { OnOk result (Marks self.old self.new (held_in files.now ino)) }
+        ensures { OnOk result (Marks self.old self.new (held_in (files_of files.now) ino)) }
     {
         let Some(file) = listed_at(files, ino) else {
             return Ok(());

@@ -1,8 +1,7 @@
 use Rattle.std.proofs.Common.{rules, ◌≡◌, ◌+◌, ◌∷◌, ◌∙◌, [], length, refl, sym, ap, subst, arith, length-append}
-use Rattle.std.specs.Option.{option_map_or}
-use Rattle.std.specs.FinMap as finmap
-use Rattle.af_base.specs.Places.{contents, held_by}
-use Rattle.af_plain.specs.Marking.{Marks, held_in}
+use Rattle.af_base.specs.Listing.{files_of}
+use Rattle.af_base.specs.Places.{held_by, held_in}
+use Rattle.af_plain.specs.Marking.{Marks}
 use Rattle.af_plain.specs.declared.reach.Marking.{Marking}
 use Rattle.af_plain.proofs.ReachedFiles.{all_held, held_listed, searches-begin, searches-end, searches-step}
 use Rattle.af_plain.proofs.reach.mark_reached.Goals as goal
@@ -22,7 +21,7 @@ loop-ino-smaller c =
 pub loop-ino-preserved : goal.loop-ino-preserved
 loop-ino-preserved c =
     let popped : Marking = record { marked = c.loop-ino.marking.marked; ahead = c.pop.new.self } in
-    let held : held_in c.files-files.result.now c.in-Some.ino ≡ held_by c.args.listing.now c.in-Some.ino = ap (λ m. option_map_or contents (finmap.get m c.in-Some.ino) []) (sym c.files-files.ensures.value) in
+    let held : held_in (files_of c.files-files.result.now) c.in-Some.ino ≡ held_by c.args.listing.now c.in-Some.ino = ap (λ m. held_in m c.in-Some.ino) (sym c.files-files.ensures.value) in
     searches-step c.args.listing.now c.loop-ino.marking popped c.look_at.new.self c.in-Some.ino refl c.in-Some.ensures.items c.loop-ino.invariant (subst (Marks popped c.look_at.new.self) held c.in_ok-look_at.ensures)
 
 pub returns-clause-marked : goal.returns-clause-marked
