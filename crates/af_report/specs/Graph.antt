@@ -17,8 +17,8 @@ use Rattle.af_report.specs.Quoted.{quoted}
 -- ---- processes
 
 -- A descriptor of a process: an edge to its file (open(2)).
-abbrev pub number_text : ℕ → ℕ → ℕ → List ℕ
-number_text p n f = codes "p" ++ (decimal p
+abbrev pub descriptor_text : ℕ → ℕ → ℕ → List ℕ
+descriptor_text p n f = codes "p" ++ (decimal p
     ++ (codes " -> f" ++ (decimal f ++ (codes " [label=\"" ++ (decimal n ++ codes "\"]\n")))))
 
 -- A process: a box.
@@ -28,7 +28,7 @@ box_text p = codes "p"
 
 -- A process, and its numbers.
 abbrev pub process_text : ℕ → Process → List ℕ
-process_text p q = box_text p ++ flat_map (λ e. number_text p e.0 e.1) (map.entries q.table)
+process_text p q = box_text p ++ flat_map (λ e. descriptor_text p e.0 e.1) (map.entries q.table)
 
 -- ---- files
 
@@ -46,14 +46,14 @@ abbrev pub counts_text : ℕ → ℕ → List ℕ
 counts_text refs inflight = codes "\\nrefs " ++ (decimal refs ++ (codes " inflight " ++ decimal inflight))
 
 -- A name on a line of its own, behind `@`.
-abbrev pub name_text : Option (List ℕ) → List ℕ
-name_text None = []
-name_text (Some name) = codes "\\n@" ++ quoted name
+abbrev pub name_line : Option (List ℕ) → List ℕ
+name_line None = []
+name_line (Some name) = codes "\\n@" ++ quoted name
 
 -- The abstract name of a file, if it has one.
-abbrev pub name_of : File → Option (List ℕ)
-name_of Plain = None
-name_of (AsSocket s) = s.name
+abbrev pub socket_name : File → Option (List ℕ)
+socket_name Plain = None
+socket_name (AsSocket s) = s.name
 
 -- Garbage has a colour of its own.
 abbrev pub colour : Bool → List ℕ
@@ -65,7 +65,7 @@ abbrev pub node_text : World → Bool → ℕ → File → List ℕ
 node_text w is_garbage f x =
     codes "f" ++ (decimal f ++ (codes " [label=\"" ++ (decimal f ++ codes " ")))
     ++ (kind_text x ++ (counts_text (refs w f) (inflight w f)
-    ++ (name_text (name_of x) ++ (codes "\"" ++ (colour is_garbage ++ codes "]\n")))))
+    ++ (name_line (socket_name x) ++ (codes "\"" ++ (colour is_garbage ++ codes "]\n")))))
 
 -- An edge to the peer of a connected socket.
 abbrev pub peer_text : ℕ → State → List ℕ
@@ -75,13 +75,13 @@ peer_text f (state.Connected peer) = edge_text f peer (codes " [style=dotted]\n"
 peer_text f state.HungUp = []
 
 -- An edge to the peer of a file: a plain one has none.
-abbrev pub peer_of : ℕ → File → List ℕ
-peer_of f Plain = []
-peer_of f (AsSocket s) = peer_text f s.state
+abbrev pub peer_edge : ℕ → File → List ℕ
+peer_edge f Plain = []
+peer_edge f (AsSocket s) = peer_text f s.state
 
 -- A file, and an edge to its peer.
 abbrev pub file_text : World → Bool → ℕ → File → List ℕ
-file_text w is_garbage f x = node_text w is_garbage f x ++ peer_of f x
+file_text w is_garbage f x = node_text w is_garbage f x ++ peer_edge f x
 
 -- ---- what waits at files
 

@@ -22,11 +22,11 @@ right width n = replicate (width - length (decimal n)) 32 ++ decimal n
 abbrev pub left : ℕ → List ℕ → List ℕ
 left width word = word ++ replicate (width - char_count word) 32
 
--- Columns are joined by one space.
-abbrev pub joined : List (List ℕ) → List ℕ
-joined [] = []
-joined (column ∷ []) = column
-joined (column ∷ next ∷ others) = column ++ 32 ∷ joined (next ∷ others)
+-- The cells of a line are joined by one space.
+abbrev pub joined_cells : List (List ℕ) → List ℕ
+joined_cells [] = []
+joined_cells (cell ∷ []) = cell
+joined_cells (cell ∷ next ∷ others) = cell ++ 32 ∷ joined_cells (next ∷ others)
 
 -- ---- what they say of a file
 
@@ -50,42 +50,42 @@ peer_number (state.Connected peer) = peer
 peer_number state.HungUp = 0
 
 -- The kind of a file.
-abbrev pub kind_of : File → List ℕ
-kind_of Plain = codes "plain"
-kind_of (AsSocket s) = type_word s.kind
+abbrev pub kind_cell : File → List ℕ
+kind_cell Plain = codes "plain"
+kind_cell (AsSocket s) = type_word s.kind
 
 -- The state of a file, if it is a socket.
-abbrev pub state_of : File → List ℕ
-state_of Plain = codes "-"
-state_of (AsSocket s) = state_word s.state
+abbrev pub state_cell : File → List ℕ
+state_cell Plain = codes "-"
+state_cell (AsSocket s) = state_word s.state
 
--- Its live peer, or 0.
-abbrev pub peer_of : File → ℕ
-peer_of Plain = 0
-peer_of (AsSocket s) = peer_number s.state
+-- The number of a file's live peer, or 0.
+abbrev pub peer_cell : File → ℕ
+peer_cell Plain = 0
+peer_cell (AsSocket s) = peer_number s.state
 
 -- `@` and a name, or `-` where there is none.
 abbrev pub name_text : Option (List ℕ) → List ℕ
 name_text None = codes "-"
 name_text (Some name) = 64 ∷ name
 
--- Its abstract name, if it has one.
-abbrev pub name_of : File → List ℕ
-name_of Plain = codes "-"
-name_of (AsSocket s) = name_text s.name
+-- `@` and the abstract name of a file, or `-` where it has none (unix(7)).
+abbrev pub name_cell : File → List ℕ
+name_cell Plain = codes "-"
+name_cell (AsSocket s) = name_text s.name
 
 -- ---- lines
 
--- The columns of a file: its number, its two counts, its kind, its state, how many messages and
+-- The cells of a file: its number, its two counts, its kind, its state, how many messages and
 -- embryos wait, its peer and its name.
 abbrev pub columns : World → ℕ → File → List (List ℕ)
 columns w f x =
-    right 8 f ∷ right 7 (refs w f) ∷ right 7 (inflight w f) ∷ left 9 (kind_of x) ∷ left 9 (state_of x)
-    ∷ right 4 (length (queue_of x)) ∷ right 4 (length (backlog_of x)) ∷ right 8 (peer_of x) ∷ name_of x ∷ []
+    right 8 f ∷ right 7 (refs w f) ∷ right 7 (inflight w f) ∷ left 9 (kind_cell x) ∷ left 9 (state_cell x)
+    ∷ right 4 (length (queue_of x)) ∷ right 4 (length (backlog_of x)) ∷ right 8 (peer_cell x) ∷ name_cell x ∷ []
 
 -- The line of a file.
 abbrev pub file_line : World → ℕ → File → List ℕ
-file_line w f x = joined (columns w f x) ++ 10 ∷ []
+file_line w f x = joined_cells (columns w f x) ++ 10 ∷ []
 
 -- The line above all others.
 abbrev pub header : List ℕ

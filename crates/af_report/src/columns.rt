@@ -3,8 +3,8 @@ ghost use Rattle.std.specs.Prelude.{◌≡◌, ◌<◌, ◌++◌, ◌∷◌, [],
 ghost use Rattle.af_base.specs.Places.{backlog_of, queue_of};
 ghost use Rattle.std.specs.FinMap as map;
 ghost use Rattle.af_base.specs.World.{File, IsLive};
-ghost use Rattle.af_report.specs.Table.{joined, kind_of, left, name_text, peer_number, peer_of};
-ghost use Rattle.af_report.specs.Table.{right, state_of, state_word, type_word};
+ghost use Rattle.af_report.specs.Table.{joined_cells, kind_cell, left, name_text, peer_cell};
+ghost use Rattle.af_report.specs.Table.{peer_number, right, state_cell, state_word, type_word};
 ghost use Rattle.af_report.specs.Texts.{AppendsText};
 
 use af_base::events::{SockType, State};
@@ -31,7 +31,7 @@ fn push_word(text: &mut String, width: usize, word: &str) -> Result<(), AllocErr
 /// Appends a file's number and its two counts.
 pub fn push_counts(text: &mut String, ino: Ino, refs: u64, inflight: u64) -> Result<(), AllocError>
     ensures { OnOk result (AppendsText text.old text.new
-        (joined (right 8 ino ∷ right 7 refs ∷ right 7 inflight ∷ [] ∷ []))) }
+        (joined_cells (right 8 ino ∷ right 7 refs ∷ right 7 inflight ∷ [] ∷ []))) }
 {
     push_number(text, 8, ino.0)?;
     push_number(text, 7, refs)?;
@@ -73,8 +73,8 @@ fn peer_number(state: &State) -> u64
 
 /// Appends the kind and the state of a file.
 fn push_kind(text: &mut String, kind: &str, state: &str) -> Result<(), AllocError>
-    ensures { OnOk result
-        (AppendsText text.old text.new (joined (left 9 kind.now ∷ left 9 state.now ∷ [] ∷ []))) }
+    ensures { OnOk result (AppendsText text.old text.new
+        (joined_cells (left 9 kind.now ∷ left 9 state.now ∷ [] ∷ []))) }
 {
     push_word(text, 9, kind)?;
     push_word(text, 9, state)?;
@@ -89,7 +89,7 @@ fn push_waiting(
     peer: u64,
 ) -> Result<(), AllocError>
     ensures { OnOk result (AppendsText text.old text.new
-        (joined (right 4 messages ∷ right 4 embryos ∷ right 8 peer ∷ [] ∷ []))) }
+        (joined_cells (right 4 messages ∷ right 4 embryos ∷ right 8 peer ∷ [] ∷ []))) }
 {
     push_number(text, 4, messages as u64)?;
     push_number(text, 4, embryos as u64)?;
@@ -102,8 +102,8 @@ pub fn push_file(text: &mut String, engine: &Engine, file: &FileRef) -> Result<(
     requires { IsLive engine.now.world file.now }
     ensures { (x : File) → map.get engine.now.world.files file.now ≡ Some x
         → OnOk result (AppendsText text.old text.new
-        (joined (left 9 (kind_of x) ∷ left 9 (state_of x) ∷ right 4 (length (queue_of x))
-        ∷ right 4 (length (backlog_of x)) ∷ right 8 (peer_of x) ∷ [] ∷ []))) }
+        (joined_cells (left 9 (kind_cell x) ∷ left 9 (state_cell x) ∷ right 4 (length (queue_of x))
+        ∷ right 4 (length (backlog_of x)) ∷ right 8 (peer_cell x) ∷ [] ∷ []))) }
 {
     match engine.file_at(file) {
         FileInfo::Plain => {

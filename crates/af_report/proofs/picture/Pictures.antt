@@ -16,12 +16,12 @@ use Rattle.af_base.specs.declared.listing.ListedSocket.{ListedSocket}
 use Rattle.af_base.specs.declared.listing.ListedTable.{ListedTable}
 use Rattle.af_base.proofs.MapsOfLists.{keyed-entries}
 use Rattle.af_base.proofs.PlainLists.{changed, keyed-changed, keys-rise}
-use Rattle.af_report.specs.Graph.{box_text, contents_text, embryo_text, message_text, name_of, number_text, process_text}
+use Rattle.af_report.specs.Graph.{box_text, contents_text, embryo_text, message_text, socket_name, descriptor_text, process_text}
 
 -- The name of a live file.
-pub name_at-name_of : (w : World) (f : ℕ) (x : File) → finmap.get w.files f ≡ Some x → name_at w f ≡ name_of x
-name_at-name_of w f Plain at = rw at refl
-name_at-name_of w f (AsSocket s) at = rw at refl
+pub name_at-socket_name : (w : World) (f : ℕ) (x : File) → finmap.get w.files f ≡ Some x → name_at w f ≡ socket_name x
+name_at-socket_name w f Plain at = rw at refl
+name_at-socket_name w f (AsSocket s) at = rw at refl
 
 -- ---- a map that is shown as a list
 
@@ -43,8 +43,8 @@ changed-text g F same m =
 -- ---- processes
 
 -- The text of a process that is listed.
-pub process-listed : (t : ListedTable) → IsRisingTable t → process_text t.pid (process_of t) ≡ box_text t.pid ++ flat_map (λ n. number_text t.pid n.fd n.ino) t.numbers.items
-process-listed t rise = ap (λ rest. box_text t.pid ++ rest) (keyed-text (λ n. n.fd) (λ n. n.ino) (λ e. number_text t.pid e.0 e.1) t.numbers.items rise)
+pub process-listed : (t : ListedTable) → IsRisingTable t → process_text t.pid (process_of t) ≡ box_text t.pid ++ flat_map (λ n. descriptor_text t.pid n.fd n.ino) t.numbers.items
+process-listed t rise = ap (λ rest. box_text t.pid ++ rest) (keyed-text (λ n. n.fd) (λ n. n.ino) (λ e. descriptor_text t.pid e.0 e.1) t.numbers.items rise)
 
 -- The text of all processes of a world that is listed bare.
 pub processes-listed : (w seen : World) (tables : List ListedTable) → seen ≡ bare w → seen.processes ≡ processes_of tables → AreTables tables

@@ -5,7 +5,7 @@ ghost use Rattle.std.specs.FinMap as map;
 ghost use Rattle.af_base.specs.World.{File, IsLive};
 ghost use Rattle.af_report.specs.Texts.{AppendsText};
 ghost use Rattle.af_report.specs.Graph.{colour, counts_text, files_text, is_in, kind_text};
-ghost use Rattle.af_report.specs.Graph.{node_text, peer_of, peer_text};
+ghost use Rattle.af_report.specs.Graph.{node_text, peer_edge, peer_text};
 
 use crate::columns::{state_word, type_word};
 use crate::picture::names::push_name;
@@ -61,7 +61,7 @@ fn push_state(text: &mut String, ino: Ino, state: &State) -> Result<(), AllocErr
 fn push_peer(text: &mut String, engine: &Engine, file: &FileRef) -> Result<(), AllocError>
     requires { IsLive engine.now.world file.now }
     ensures { (x : File) → map.get engine.now.world.files file.now ≡ Some x
-        → OnOk result (AppendsText text.old text.new (peer_of file.now x)) }
+        → OnOk result (AppendsText text.old text.new (peer_edge file.now x)) }
 {
     match engine.file_at(file) {
         FileInfo::Plain => Ok(()),

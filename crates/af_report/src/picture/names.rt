@@ -1,7 +1,7 @@
 //! Names, so written that they cannot leave their quotes.
 ghost use Rattle.std.specs.Prelude.{◌<◌, ◌∷◌, [], OnOk, option_copied};
 ghost use Rattle.af_report.specs.Texts.{AppendsText, escaped};
-ghost use Rattle.af_report.specs.Graph.{name_text};
+ghost use Rattle.af_report.specs.Graph.{name_line};
 ghost use Rattle.af_report.specs.Quoted.{quoted};
 
 use crate::escape::{hex_digit, is_name_byte};
@@ -39,7 +39,7 @@ fn push_quoted(text: &mut String, name: &[u8]) -> Result<(), AllocError>
 
 /// Appends a name on a line of its own, behind `@`; nothing where there is none.
 pub fn push_name(text: &mut String, name: Option<&[u8]>) -> Result<(), AllocError>
-    ensures { OnOk result (AppendsText text.old text.new (name_text (option_copied name.entry))) }
+    ensures { OnOk result (AppendsText text.old text.new (name_line (option_copied name.entry))) }
 {
     let Some(name) = name else {
         return Ok(());

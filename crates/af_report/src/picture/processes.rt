@@ -3,7 +3,7 @@ ghost use Rattle.std.specs.Prelude.{OnOk};
 ghost use Rattle.std.specs.List.{All, flat_map};
 ghost use Rattle.af_base.specs.Listing.{IsRisingTable, process_of};
 ghost use Rattle.af_report.specs.Texts.{AppendsText};
-ghost use Rattle.af_report.specs.Graph.{box_text, number_text, process_text};
+ghost use Rattle.af_report.specs.Graph.{box_text, descriptor_text, process_text};
 
 use af_base::ids::Pid;
 use af_base::listing::{ListedNumber, ListedTable};
@@ -11,7 +11,8 @@ use std::alloc::AllocError;
 
 /// Appends an edge from a process to the file of one of its descriptors.
 fn push_number(text: &mut String, pid: Pid, number: ListedNumber) -> Result<(), AllocError>
-    ensures { OnOk result (AppendsText text.old text.new (number_text pid number.fd number.ino)) }
+    ensures { OnOk result
+        (AppendsText text.old text.new (descriptor_text pid number.fd number.ino)) }
 {
     let ListedNumber { fd, ino } = number;
     writeln!(text, "p{pid} -> f{ino} [label=\"{fd}\"]")
@@ -19,8 +20,8 @@ fn push_number(text: &mut String, pid: Pid, number: ListedNumber) -> Result<(), 
 
 /// Appends an edge for each descriptor of a process.
 fn push_numbers(text: &mut String, pid: Pid, numbers: &[ListedNumber]) -> Result<(), AllocError>
-    ensures { OnOk result
-        (AppendsText text.old text.new (flat_map (λ n. number_text pid n.fd n.ino) numbers.now)) }
+    ensures { OnOk result (AppendsText text.old text.new
+        (flat_map (λ n. descriptor_text pid n.fd n.ino) numbers.now)) }
 {
     for number in numbers {
         push_number(text, pid, *number)?;

@@ -4,7 +4,7 @@ use Rattle.std.specs.FinMap as map
 use Rattle.af_base.specs.World.{File}
 use Rattle.af_base.proofs.MapWalks.{above, all_entries, fewer_above, next_entry, no_entry}
 use Rattle.af_report.proofs.WalkStart.{none_at_zero}
-use Rattle.af_report.specs.Graph.{file_text, files_text, is_in, node_text, peer_of}
+use Rattle.af_report.specs.Graph.{file_text, files_text, is_in, node_text, peer_edge}
 use Rattle.af_report.proofs.Pieces.{both, none_left, piece_taken}
 use Rattle.af_report.proofs.picture.files.push_files.Goals as goal
 
@@ -25,10 +25,10 @@ loop-file-preserved c =
     let peer = c.push_peer.ensures x at.1 in
     let garbage : c.is_in.result ≡ is_in c.args.garbage.now f = c.is_in.ensures ∙ ap (is_in c.args.garbage.now) c.ino.ensures in
     let first : string_bytes c.push_node.new.text ≡ string_bytes c.loop-file.text ++ node_text w (is_in c.args.garbage.now f) f x = search rules in
-    let second : string_bytes c.push_peer.new.text ≡ string_bytes c.push_node.new.text ++ peer_of f x = search rules in
+    let second : string_bytes c.push_peer.new.text ≡ string_bytes c.push_node.new.text ++ peer_edge f x = search rules in
     ap (λ n. string_bytes c.push_peer.new.text ++ flat_map text (above n (map.entries w.files))) c.ino-last.ensures
     ∙ piece_taken text (f, x) (above c.loop-file.last (map.entries w.files)) (above f (map.entries w.files)) (string_bytes c.loop-file.text) (string_bytes c.push_peer.new.text) (string_bytes c.args.text.now ++ files_text w c.args.garbage.now) at.2
-    (both (node_text w (is_in c.args.garbage.now f) f x) (peer_of f x) (string_bytes c.loop-file.text) (string_bytes c.push_node.new.text) (string_bytes c.push_peer.new.text) first second)
+    (both (node_text w (is_in c.args.garbage.now f) f x) (peer_edge f x) (string_bytes c.loop-file.text) (string_bytes c.push_node.new.text) (string_bytes c.push_peer.new.text) first second)
     c.loop-file.invariant
 
 pub loop-file-smaller : goal.loop-file-smaller

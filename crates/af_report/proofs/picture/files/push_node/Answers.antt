@@ -3,9 +3,9 @@ use Rattle.std.specs.Prelude.{codes}
 use Rattle.std.specs.Fmt.{decimal}
 use Rattle.af_base.specs.Counts.{inflight, refs}
 use Rattle.af_base.specs.Whole.{name_at}
-use Rattle.af_report.specs.Graph.{colour, counts_text, kind_text, name_of, name_text}
+use Rattle.af_report.specs.Graph.{colour, counts_text, kind_text, socket_name, name_line}
 use Rattle.af_report.proofs.Pieces.{both}
-use Rattle.af_report.proofs.picture.Pictures.{name_at-name_of}
+use Rattle.af_report.proofs.picture.Pictures.{name_at-socket_name}
 use Rattle.af_report.proofs.picture.files.push_node.Goals as goal
 
 pub returns : goal.returns
@@ -14,7 +14,7 @@ returns c = λ x at.
     let f = c.args.file.now in
     let head : List ℕ = codes "f" ++ (decimal f ++ (codes " [label=\"" ++ (decimal f ++ codes " "))) in
     let counts = counts_text (refs w f) (inflight w f) in
-    let name = name_text (name_of x) in
+    let name = name_line (socket_name x) in
     let quote : List ℕ = codes "\"" in
     let shade = colour c.args.is_garbage in
     let end : List ℕ = codes "]\n" in
@@ -30,12 +30,12 @@ returns c = λ x at.
     let first : headed ≡ old ++ head = search rules in
     let second : kinded ≡ headed ++ kind_text x = search rules in
     let third : counted ≡ kinded ++ counts = search rules in
-    let fourth : named ≡ counted ++ name_text (name_at w f) = search rules in
+    let fourth : named ≡ counted ++ name_line (name_at w f) = search rules in
     let fifth : quoted ≡ named ++ quote = search rules in
     let sixth : shaded ≡ quoted ++ shade = search rules in
     let seventh : new ≡ shaded ++ end = search rules in
     both head (kind_text x ++ (counts ++ (name ++ (quote ++ (shade ++ end))))) old headed new first
     (both (kind_text x) (counts ++ (name ++ (quote ++ (shade ++ end)))) headed kinded new second
     (both counts (name ++ (quote ++ (shade ++ end))) kinded counted new third
-    (both name (quote ++ (shade ++ end)) counted named new (fourth ∙ ap (λ n. counted ++ name_text n) (name_at-name_of w f x at))
+    (both name (quote ++ (shade ++ end)) counted named new (fourth ∙ ap (λ n. counted ++ name_line n) (name_at-socket_name w f x at))
     (both quote (shade ++ end) named quoted new fifth (both shade end quoted shaded new sixth seventh)))))
