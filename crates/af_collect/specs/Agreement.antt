@@ -15,7 +15,8 @@ pub record Agrees (w : World) (k : Tally) : Type 0 where
   pub waiting : (f : ℕ) → (count_of k f).waiting ≡ waiting w f
   pub charged : (u : ℕ) → charge_of k u ≡ charged w u
   pub total : k.total ≡ total w
-  pub known : (p : ℕ) (q : Process) → map.get w.processes p ≡ Some q → IsTrue (is_user q.user k.users)
+  pub known : (p : ℕ) (q : Process) → map.get w.processes p ≡ Some q
+      → IsTrue (is_user q.user k.users)
 
 -- The invariant of a store: its world is well-formed and within the limits, each kept count is its
 -- recount, and it keeps counts of just the live files.

@@ -121,7 +121,8 @@ first_held w s = if nat_eq (length (queue_at w s)) 0 then take 1 (backlog_at w s
 
 -- Whether freeing the file is counted: while sweeping, if it is an unmarked socket of the begin.
 abbrev pub is_counted : World → MarksView → PassProgress → ℕ → Bool
-is_counted w m c f = is_sweeping c.stage && (is_socket_at w f && (nat_lt f m.bound && not (is_marked m f)))
+is_counted w m c f =
+    is_sweeping c.stage && (is_socket_at w f && (nat_lt f m.bound && not (is_marked m f)))
 
 -- The progress of the pass after the file is freed.
 abbrev pub counted : World → MarksView → ℕ → PassProgress → PassProgress

@@ -11,4 +11,5 @@ IsBelowLimit w p n = (q : Process) → map.get w.processes p ≡ Some q → n < 
 
 -- It is the user of some process (unix(7): charges are the sender's).
 abbrev pub IsOfProcess : World → ℕ → Type 0
-IsOfProcess w u = (p : ℕ) × (map.get w.processes p ≡ Some (process_at w p)) × (u ≡ (process_at w p).user)
+IsOfProcess w u =
+    (p : ℕ) × (map.get w.processes p ≡ Some (process_at w p)) × (u ≡ (process_at w p).user)

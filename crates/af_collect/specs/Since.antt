@@ -70,7 +70,8 @@ pub record IsSweeping (begun now : World) (marked swept : ℕ → Bool) (reclaim
 -- The units done are at least the live files of the begin that were visited, scanned and swept.
 -- With those that are left they are at most three for each file of the begin (this project's
 -- profile: what a budget counts).
-pub record AreCounted (begun now : World) (visited scanned swept : ℕ → Bool) (looked : ℕ) : Type 0 where
+pub record AreCounted (begun now : World) (visited scanned swept : ℕ → Bool)
+    (looked : ℕ) : Type 0 where
   pub at_least : live_count begun now visited + live_count begun now scanned
       + live_count begun now swept ≤ looked
   pub at_most : looked + live_count begun now (λ f. not (visited f))

@@ -95,4 +95,5 @@ EmbryosAreReached = (w : World) (s e : ℕ) → Reached w s → InBacklog w s e 
 
 -- So is what the embryo can receive, before it is accepted.
 abbrev pub WhatEmbryosHoldIsReached : Type 0
-WhatEmbryosHoldIsReached = (w : World) (s e f : ℕ) → Reached w s → InBacklog w s e → Holds w e f → Reached w f
+WhatEmbryosHoldIsReached =
+    (w : World) (s e f : ℕ) → Reached w s → InBacklog w s e → Holds w e f → Reached w f

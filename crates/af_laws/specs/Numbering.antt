@@ -15,7 +15,8 @@ FreeNumbersAreFree = (p : Process) (n : ℕ) → Contains (free_numbers p) n ↔
 
 -- As many are given as were asked for, or else all that there are.
 abbrev pub AsManyAsThereAre : Type 0
-AsManyAsThereAre = (k : ℕ) (p : Process) → length (lowest_free k p) ≡ min k (length (free_numbers p))
+AsManyAsThereAre =
+    (k : ℕ) (p : Process) → length (lowest_free k p) ≡ min k (length (free_numbers p))
 
 -- They are given in rising order.
 abbrev pub GivenInOrder : Type 0

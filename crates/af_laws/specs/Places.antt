@@ -70,7 +70,8 @@ ExitKeepsCharges = (w : World) (p u : ℕ) → charged (remove_process w p) u �
 -- A message that is sent is as many references more to a file, and as many more in flight, as it
 -- carries the file.
 abbrev pub SendCounts : Type 0
-SendCounts = (w : World) (s f : ℕ) (m : Message) (x : Socket) → map.get w.files s ≡ Some (AsSocket x)
+SendCounts =
+    (w : World) (s f : ℕ) (m : Message) (x : Socket) → map.get w.files s ≡ Some (AsSocket x)
     → (refs (push_message w s m) f ≡ refs w f + count_in f m.attached)
     × (inflight (push_message w s m) f ≡ inflight w f + count_in f m.attached)
 
@@ -85,7 +86,8 @@ ReceiveCounts = (w : World) (s f : ℕ) (m : Message) (rest : List Message) (x :
 -- A message that is sent is charged to the user that it names, a place for each file that it
 -- carries, and to nobody else (unix(7), ETOOMANYREFS; whom it counts is this project's profile).
 abbrev pub SendCharges : Type 0
-SendCharges = (w : World) (s u : ℕ) (m : Message) (x : Socket) → map.get w.files s ≡ Some (AsSocket x)
+SendCharges =
+    (w : World) (s u : ℕ) (m : Message) (x : Socket) → map.get w.files s ≡ Some (AsSocket x)
     → (charged (push_message w s m) m.user ≡ charged w m.user + length m.attached)
     × (u ≢ m.user → charged (push_message w s m) u ≡ charged w u)
     × (total (push_message w s m) ≡ total w + length m.attached)

@@ -82,7 +82,8 @@ SlicesAreAPass = (old new : Machine) (slices : List RunEntry) (started b pass co
 abbrev pub PassIsOneSlice : Type 0
 PassIsOneSlice = (old new : Machine) (pass count : ℕ) → IsSound old.world
     → Step old event.Pass (reply.Done pass count) new
-    → Run old ((event.Begin, reply.Started pass) ∷ (event.Slice MAX_BUDGET, reply.Done pass count) ∷ []) new
+    → Run old ((event.Begin, reply.Started pass)
+    ∷ (event.Slice MAX_BUDGET, reply.Done pass count) ∷ []) new
 
 -- While no garbage of the begin is reached, a slice spares what is reached, whatever the answer.
 abbrev pub SlicesSpareTheReached : Type 0

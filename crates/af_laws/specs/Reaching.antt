@@ -16,11 +16,13 @@ use Rattle.af_base.specs.Whole.{IsSound, IsWhole}
 
 -- Each place of the old world is one of the new.
 abbrev pub HasPlacesOf : World → World → Type 0
-HasPlacesOf new old = ((f : ℕ) → InTable old f → InTable new f) × ((s f : ℕ) → Holds old s f → Holds new s f)
+HasPlacesOf new old =
+    ((f : ℕ) → InTable old f → InTable new f) × ((s f : ℕ) → Holds old s f → Holds new s f)
 
 -- A reachable file stays reachable if no place is lost.
 abbrev pub PlacesKeepReached : Type 0
-PlacesKeepReached = (old new : World) → HasPlacesOf new old → (f : ℕ) → Reached old f → Reached new f
+PlacesKeepReached =
+    (old new : World) → HasPlacesOf new old → (f : ℕ) → Reached old f → Reached new f
 
 -- It stays reached where a free descriptor is opened.
 abbrev pub InstallKeepsReached : Type 0
@@ -29,7 +31,8 @@ InstallKeepsReached = (w : World) (p n g f : ℕ) → table_at w p n ≡ None �
 
 -- It stays reached where a message is sent.
 abbrev pub SendKeepsReached : Type 0
-SendKeepsReached = (w : World) (s : ℕ) (m : Message) (f : ℕ) → Reached w f → Reached (push_message w s m) f
+SendKeepsReached =
+    (w : World) (s : ℕ) (m : Message) (f : ℕ) → Reached w f → Reached (push_message w s m) f
 
 -- A reachable file is never unheld.
 abbrev pub ReachedIsHeld : Type 0
@@ -76,5 +79,6 @@ GarbageStaysOutOfReach = (old new : Machine) (e : Event) (r : Reply) → IsWhole
 
 -- No run reaches a file that was garbage at its beginning, whatever files are freed or made.
 abbrev pub GarbageIsNeverReached : Type 0
-GarbageIsNeverReached = (old new : Machine) (log : List RunEntry) → IsSound old.world → Run old log new
+GarbageIsNeverReached =
+    (old new : Machine) (log : List RunEntry) → IsSound old.world → Run old log new
     → (f : ℕ) → Garbage old.world f → ¬ (Reached new.world f)

@@ -21,7 +21,8 @@ ForkCopies = (old new : World) (p child : ℕ) → ProcessStep old p step.Fork (
 -- An exit removes the process, and keeps each other process (_exit(2)).
 abbrev pub ExitTakesOneTable : Type 0
 ExitTakesOneTable = (old new : World) (p : ℕ) → ProcessStep old p step.Exit reply.Ok new
-    → (map.get new.processes p ≡ None) × ((q : ℕ) → q ≢ p → map.get new.processes q ≡ map.get old.processes q)
+    → (map.get new.processes p ≡ None)
+    × ((q : ℕ) → q ≢ p → map.get new.processes q ≡ map.get old.processes q)
 
 -- A process that is there can always exit: there is no other answer (_exit(2)).
 abbrev pub ExitNeverFails : Type 0

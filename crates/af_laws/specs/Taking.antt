@@ -62,7 +62,8 @@ FilesComeWithFirstByte = (q : List Message) (n : ℕ) (m : Message) → find has
 
 -- Where no message has files, none come.
 abbrev pub NoFilesFromNone : Type 0
-NoFilesFromNone = (q : List Message) (n : ℕ) → find has_files q ≡ None → (take_stream q n).attached ≡ []
+NoFilesFromNone =
+    (q : List Message) (n : ℕ) → find has_files q ≡ None → (take_stream q n).attached ≡ []
 
 -- The result of several receives: all their bytes, all their files, and the queue that is left.
 pub record Together : Type 0 where

@@ -19,7 +19,8 @@ count_outside s xs = count_by (λ x. not (tree.contains nat_cmp s x)) xs
 -- A search step over these files: it adds just these, and each new one is to be looked at.
 pub record Marks (old new : Marking) (found : List ℕ) : Type 0 where
   pub marked : (f : ℕ) → Contains found f → tree.contains nat_cmp new.marked f ≡ true
-  pub kept : (f : ℕ) → tree.contains nat_cmp old.marked f ≡ true → tree.contains nat_cmp new.marked f ≡ true
+  pub kept : (f : ℕ) → tree.contains nat_cmp old.marked f ≡ true
+      → tree.contains nat_cmp new.marked f ≡ true
   pub only : (f : ℕ) → tree.contains nat_cmp new.marked f ≡ true
       → (tree.contains nat_cmp old.marked f ≡ true) ⊎ Contains found f
   pub fresh : (f : ℕ) → tree.contains nat_cmp new.marked f ≡ true

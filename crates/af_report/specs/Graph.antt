@@ -43,7 +43,8 @@ kind_text (AsSocket s) = type_word s.kind ++ (codes " " ++ state_word s.state)
 
 -- The two counts of a file, on a line of their own.
 abbrev pub counts_text : ℕ → ℕ → List ℕ
-counts_text refs inflight = codes "\\nrefs " ++ (decimal refs ++ (codes " inflight " ++ decimal inflight))
+counts_text refs inflight =
+    codes "\\nrefs " ++ (decimal refs ++ (codes " inflight " ++ decimal inflight))
 
 -- A name on a line of its own, behind `@`.
 abbrev pub name_line : Option (List ℕ) → List ℕ
@@ -100,7 +101,8 @@ embryo_text f g = edge_text f g (codes " [style=dashed, label=embryo]\n")
 
 -- The contents of a file: the files attached to its messages, and its embryos.
 abbrev pub contents_text : ℕ → File → List ℕ
-contents_text f x = flat_map (message_text f) (queue_of x) ++ flat_map (embryo_text f) (backlog_of x)
+contents_text f x =
+    flat_map (message_text f) (queue_of x) ++ flat_map (embryo_text f) (backlog_of x)
 
 -- ---- the whole
 

@@ -80,8 +80,10 @@ name_cell (AsSocket s) = name_text s.name
 -- embryos wait, its peer and its name.
 abbrev pub columns : World → ℕ → File → List (List ℕ)
 columns w f x =
-    right 8 f ∷ right 7 (refs w f) ∷ right 7 (inflight w f) ∷ left 9 (kind_cell x) ∷ left 9 (state_cell x)
-    ∷ right 4 (length (queue_of x)) ∷ right 4 (length (backlog_of x)) ∷ right 8 (peer_cell x) ∷ name_cell x ∷ []
+    right 8 f ∷ right 7 (refs w f) ∷ right 7 (inflight w f)
+    ∷ left 9 (kind_cell x) ∷ left 9 (state_cell x)
+    ∷ right 4 (length (queue_of x)) ∷ right 4 (length (backlog_of x))
+    ∷ right 8 (peer_cell x) ∷ name_cell x ∷ []
 
 -- The line of a file.
 abbrev pub file_line : World → ℕ → File → List ℕ
