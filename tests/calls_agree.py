@@ -106,7 +106,9 @@ def differences() -> Iterator[Tuple[str, bool]]:
     for name, _, _ in methods(sources(["af_steps/src"])):
         yield f"no call {name}", name in FOR_PROOFS or bool(re.search(rf"`{name}\b", page))
     types = fields(sources(TYPES))
-    for name, cell in re.findall(r"^\|`(\w+)`\|(.*)\|$", section(page, "Events"), re.M):
+    rows = re.findall(r"^\|`(\w+)`\|(.*)\|$", section(page, "Events"), re.M)
+    yield "the table of answers is empty", bool(rows)
+    for name, cell in rows:
         listed = re.findall(r"`([^`]+)`", cell)
         yield f"{name}: {', '.join(listed)}", listed == types.get(name)
 

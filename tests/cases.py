@@ -47,7 +47,7 @@ def tried(program: str) -> Iterator[bool]:
         if found != answers:
             print(f"{program}: {found[-600:]!r}, not {answers[-600:]!r}")
         yield found == answers
-    yield len(cases) == len(wanted)
+    yield 0 < len(cases) == len(wanted)
 
 
 def builds(path: str) -> Iterator[str]:
@@ -62,7 +62,7 @@ def main() -> int:
     form = argparse.ArgumentParser(description=__doc__, formatter_class=argparse.RawDescriptionHelpFormatter)
     form.add_argument("--program", default=f"{ROOT}/crates/scmgc/out/scmgc", help="another build of scmgc")
     path = form.parse_args().program
-    if not os.access(path, os.X_OK):
+    if not (os.path.isfile(path) and os.access(path, os.X_OK)):
         print(f"{path} is not built: run make build, or make try, and --program out/unproved/scmgc", file=sys.stderr)
         return 2
     results = [is_right for build in builds(path) for is_right in tried(build)]

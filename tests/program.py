@@ -570,7 +570,7 @@ def main() -> int:
     form = argparse.ArgumentParser(description=__doc__, formatter_class=argparse.RawDescriptionHelpFormatter)
     form.add_argument("--program", default=f"{ROOT}/crates/scmgc/out/scmgc", help="another build of scmgc")
     path = form.parse_args().program
-    if not os.access(path, os.X_OK):
+    if not (os.path.isfile(path) and os.access(path, os.X_OK)):
         print(f"{path} is not built: run make build, or make try, and --program out/unproved/scmgc", file=sys.stderr)
         return 2
     checks: List[Check] = [check for part in PARTS for check in part(Program(path))]

@@ -61,6 +61,7 @@ plays() {
     if timeout 60 "$1" --gc=none -- "$room/descriptors" cycle > "$room/layer" 2> "$room/said"; then
         fails "a cycle is freed with --gc=none"
     fi
+    grep -q "not so: poll" "$room/said" || fails "the check of a cycle ends otherwise"
     echo "unixbox: the programs passed$2"
 }
 

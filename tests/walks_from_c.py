@@ -391,6 +391,11 @@ def main() -> int:
     if len(sys.argv) != 2:
         print(__doc__, file=sys.stderr)
         return 2
+    try:
+        ctypes.CDLL(os.path.realpath(sys.argv[1]))
+    except OSError as error:
+        print(f"walks_from_c.py: {error}", file=sys.stderr)
+        return 2
     tasks = [(os.path.realpath(sys.argv[1]), name, it) for name, count in WALKS.items() for it in range(1, count + 1)]
     with ProcessPoolExecutor(len(os.sched_getaffinity(0))) as pool:
         outcomes = list(pool.map(played, tasks))
