@@ -3,6 +3,7 @@ use crate::{Engine, Errno, Fd, Finished, Ino, Pid, Received, SockType};
 use std::collections::{HashMap, HashSet};
 use std::error::Error;
 use std::fmt;
+use std::io;
 
 /// An engine, and a value behind each plain file.
 ///
@@ -288,5 +289,11 @@ impl<T> Error for OpenError<T> {}
 impl<T> From<OpenError<T>> for Errno {
     fn from(error: OpenError<T>) -> Errno {
         error.errno
+    }
+}
+
+impl<T> From<OpenError<T>> for io::Error {
+    fn from(error: OpenError<T>) -> io::Error {
+        error.errno.into()
     }
 }

@@ -55,7 +55,7 @@ impl SockType {
 }
 
 /// The state of a socket.
-#[derive(Clone, Copy, Debug, PartialEq, Eq)]
+#[derive(Clone, Copy, Debug, PartialEq, Eq, Hash)]
 pub enum State {
     /// The socket was never connected, and does not listen.
     Idle,
@@ -68,7 +68,7 @@ pub enum State {
 }
 
 /// A live file.
-#[derive(Clone, Copy, Debug, PartialEq, Eq)]
+#[derive(Clone, Copy, Debug, PartialEq, Eq, Hash)]
 pub enum File {
     /// A plain file.
     Plain,
@@ -110,7 +110,7 @@ impl File {
 }
 
 /// The outcome of a receive or a peek. Bytes and descriptors fill the caller's slices from the front.
-#[derive(Clone, Copy, Debug, PartialEq, Eq)]
+#[derive(Clone, Copy, Debug, PartialEq, Eq, Hash)]
 pub struct Received {
     /// How many bytes were written.
     pub bytes: usize,
@@ -123,7 +123,7 @@ pub struct Received {
 }
 
 /// A pass of the collector that is over.
-#[derive(Clone, Copy, Debug, PartialEq, Eq)]
+#[derive(Clone, Copy, Debug, PartialEq, Eq, Hash)]
 pub struct Finished {
     /// The number of the pass, from 1 on.
     pub pass: u64,
@@ -141,7 +141,7 @@ impl From<sys::jw_finished> for Finished {
 }
 
 /// The readiness of a descriptor.
-#[derive(Clone, Copy, Debug, PartialEq, Eq)]
+#[derive(Clone, Copy, Debug, PartialEq, Eq, Hash)]
 pub struct Ready {
     /// Whether a receive of a byte, or an accept, has something to give, or the end to tell
     /// (POLLIN).
@@ -153,7 +153,7 @@ pub struct Ready {
 }
 
 /// The counts of a check.
-#[derive(Clone, Copy, Debug, PartialEq, Eq)]
+#[derive(Clone, Copy, Debug, PartialEq, Eq, Hash)]
 pub struct Checked {
     /// How many files are live.
     pub live: u64,

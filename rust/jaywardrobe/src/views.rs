@@ -209,6 +209,7 @@ fn list_of(call: impl Fn(&mut [u64]) -> Result<usize, Errno>) -> Vec<Ino> {
 
 /// An iterator over the open descriptors of a process: see [`Engine::descriptors`].
 #[derive(Clone, Debug)]
+#[must_use = "an iterator does nothing until it is used"]
 pub struct Descriptors<'engine> {
     engine: &'engine Engine,
     of: Pid,
@@ -232,6 +233,7 @@ impl FusedIterator for Descriptors<'_> {}
 
 /// An iterator over the live files: see [`Engine::files`].
 #[derive(Clone, Debug)]
+#[must_use = "an iterator does nothing until it is used"]
 pub struct Files<'engine> {
     engine: &'engine Engine,
     /// The file that came last, or `None` at the end.

@@ -1,6 +1,7 @@
 //! A value comes back once, when its file is freed.
 use jaywardrobe::{Errno, Fd, Owned, Pid, SockType};
 use std::error::Error;
+use std::io;
 use std::rc::Rc;
 
 /// An engine with a process that has this limit on descriptors.
@@ -43,6 +44,14 @@ fn a_refusal_is_an_error_whatever_the_value() -> Result<(), Errno> {
     let refused = refused.unwrap_err();
     assert_eq!(refused.to_string(), "ESRCH: there is no such process");
     assert_eq!(format!("{refused:?}"), "OpenError { errno: ESRCH, .. }");
+    Ok(())
+}
+
+#[test]
+fn a_refusal_becomes_an_error_of_the_system() -> Result<(), Errno> {
+    let (mut owned, pid) = engine_with(0)?;
+    let refused: io::Error = owned.open(pid, "text".into()).unwrap_err().into();
+    assert_eq!(refused.raw_os_error(), Errno::EMFILE.raw_os_error());
     Ok(())
 }
 
