@@ -47,7 +47,7 @@ static handler *const handlers[MOST_NUMBERS] = {
     [SYS_setresuid] = serve_change, [SYS_setresgid] = serve_change, [SYS_prlimit64] = serve_limit,
     [SYS_setrlimit] = refuse, [SYS_io_uring_setup] = refuse, [SYS_io_setup] = refuse,
     [SYS_splice] = refuse, [SYS_sendfile] = serve_sendfile, [SYS_unshare] = serve_unshare,
-    [SYS_close_range] = refuse, [SYS_pidfd_getfd] = refuse,
+    [SYS_close_range] = refuse, [SYS_pidfd_getfd] = refuse, [SYS_prctl] = serve_prctl,
 };
 
 /* Installs the filter in this process. Returns the descriptor of its notifications. */

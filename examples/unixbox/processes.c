@@ -158,6 +158,12 @@ long serve_unshare(struct call *call) {
     return is_left ? -EINVAL : KERNEL_DOES_IT;
 }
 
+/* Without privileges, nothing of a program that is not dumpable can be read: it stays dumpable. */
+long serve_prctl(struct call *call) {
+    bool is_hiding = (int)call->args[0] == PR_SET_DUMPABLE && call->args[1] == 0;
+    return is_hiding && geteuid() != 0 ? 0 : KERNEL_DOES_IT;
+}
+
 /* exec(2), setuid(2) and the like, and exit_group(2), after which other threads may still call. */
 long serve_change(struct call *call) {
     call->process->has_changed = true;

@@ -145,4 +145,4 @@ long install(struct call *call, uint32_t *fds, size_t count, bool closes_on_exec
 typedef long handler(struct call *call);
 handler serve_socket, serve_bind, serve_listen, serve_connect, serve_accept, serve_shutdown,
     serve_name, serve_option, serve_send, serve_recv, serve_close, serve_dup, serve_fork,
-    serve_unshare, serve_change, serve_limit;
+    serve_unshare, serve_prctl, serve_change, serve_limit;

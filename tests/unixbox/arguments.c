@@ -8,6 +8,7 @@
 #include <pthread.h>
 #include <sched.h>
 #include <stdint.h>
+#include <sys/prctl.h>
 #include <sys/resource.h>
 #include <sys/sendfile.h>
 #include <sys/socket.h>
@@ -27,6 +28,11 @@ static void make_pair(int *pair) {
 
 static void close_both(const int *fds) {
     MUST(close(fds[0]) == 0 && close(fds[1]) == 0);
+}
+
+static void must_exit(pid_t child) {
+    int status;
+    MUST(waitpid(child, &status, 0) == child && WIFEXITED(status) && WEXITSTATUS(status) == 0);
 }
 
 /* Unknown flags are refused before anything happens. */
@@ -59,7 +65,7 @@ static const char *check_lengths(void) {
 
 /* A limit that is refused changes nothing. */
 static const char *check_limit(void) {
-    int pair[2], status;
+    int pair[2];
     pid_t child = fork();
     if (child == 0) {
         MUST(syscall(SYS_prlimit64, 0, RLIMIT_NOFILE, &(struct rlimit){LIMIT, LIMIT - 1}, NULL) < 0);
@@ -67,7 +73,7 @@ static const char *check_limit(void) {
             make_pair(pair);
         _exit(0);
     }
-    MUST(waitpid(child, &status, 0) == child && WIFEXITED(status) && WEXITSTATUS(status) == 0);
+    must_exit(child);
     return "a limit that is refused changes nothing";
 }
 
@@ -112,6 +118,20 @@ static const char *check_unshare(void) {
     return "a thread leaves the table alone, or is refused";
 }
 
+/* A program that is not to be looked at has sockets too. */
+static const char *check_dumpable(void) {
+    int pair[2];
+    pid_t child = fork();
+    if (child == 0) {
+        MUST(prctl(PR_SET_DUMPABLE, 0) == 0);
+        make_pair(pair);
+        MUST(write(pair[0], "x", 1) == 1 && read(pair[1], text, 1) == 1);
+        _exit(0);
+    }
+    must_exit(child);
+    return "a program that is not dumpable has sockets";
+}
+
 int main(void) {
     setvbuf(stdout, NULL, _IOLBF, 0); /* No child inherits a line. */
     printf("flags: %s\n", check_flags());
@@ -120,5 +140,6 @@ int main(void) {
     printf("files: %s\n", check_files());
     printf("sendfile: %s\n", check_sendfile());
     printf("unshare: %s\n", check_unshare());
+    printf("dumpable: %s\n", check_dumpable());
     return 0;
 }
