@@ -1,14 +1,14 @@
 # make           print this list
-# make try       build the program without proofs, out/unproved/scmgc, in a minute or two, and play SCRIPT=FILE or an example
+# make try       build out/unproved/scmgc without proofs, in a minute or two, and play SCRIPT=FILE or an example
 # make run       prove and build the program, and play the example script: half an hour on four cores
 # make build     prove and build the program alone: crates/scmgc/out/scmgc
 # make check     before a commit: compare events and the header, prove what has changed and all above it, play the cases
-# make bindings  write the header, its manual page and the bindings for Rust, after a change of a call, an error or a limit
+# make bindings  write the header, its manual page and the bindings for Rust, after a change of a call, error or limit
 # make test      the gate: proofs from nothing, all tests, wrong bodies: half an hour to an hour on four cores
-# make walks     random scripts and edited lines by the proved program, compared with a plain engine and a reader in Python
+# make walks     random scripts and edited lines by the proved program, compared with an engine and a reader in Python
 # make stress    each request for memory refused in turn, and the largest worlds, by the proved program and tests
 # make bench     nanoseconds for each event, over named workloads, and calls a second from threads
-# make try-lib   build the library for C and Rust without proofs, out/unproved/libjaywardrobe.a, in a minute or two
+# make try-lib   build out/unproved/libjaywardrobe.a, for C and Rust, without proofs, in a minute or two
 # make lib       prove and build the library for C and Rust: out/libjaywardrobe.a, half an hour on four cores
 # make archive   put that library together once more, over what make lib proved
 # make embed     make lib, then compare its header with it, and run the programs in C and Rust that use it
