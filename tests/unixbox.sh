@@ -5,6 +5,7 @@
 # Builds examples/unixbox, and runs the programs of tests/unixbox natively and under it: by slices of
 # one file and by whole passes, with all places recounted and checked after each call. The outputs
 # are the same, and unixbox finds nothing wrong. With the collector off, the check of a cycle fails.
+# A call that frees nothing is followed by a recount too.
 # All of it is done again with unixbox under the sanitizers. What cannot be run here is left out,
 # with a line that says so. The first that fails ends the script.
 set -eu
@@ -62,6 +63,8 @@ plays() {
         fails "a cycle is freed with --gc=none"
     fi
     grep -q "not so: poll" "$room/said" || fails "the check of a cycle ends otherwise"
+    timeout 60 "$1" --check --script "$room/steps" -- sh -c "exec 9>&1" > "$room/layer" 2> "$room/said"
+    grep -A 1 " dup2 1 9\$" "$room/steps" | grep -q "^check\$" || fails "no recount after a dup2"
     echo "unixbox: the programs passed$2"
 }
 
