@@ -56,7 +56,8 @@ impl<T> Owned<T> {
         })
     }
 
-    /// Creates the same, for [`take_changed`](Owned::take_changed).
+    /// Creates such an engine that also lists changed sockets, for
+    /// [`take_changed`](Owned::take_changed).
     ///
     /// # Errors
     ///
@@ -105,7 +106,7 @@ impl<T> Owned<T> {
         self.values.get(&self.engine.ino_at(of, on)?)
     }
 
-    /// Returns the same value, to be changed.
+    /// Returns the same value as [`get`](Owned::get), for changes.
     pub fn get_mut(&mut self, of: Pid, on: Fd) -> Option<&mut T> {
         self.values.get_mut(&self.engine.ino_at(of, on)?)
     }
