@@ -60,10 +60,10 @@ def builds(path: str) -> Iterator[str]:
 
 def main() -> int:
     form = argparse.ArgumentParser(description=__doc__, formatter_class=argparse.RawDescriptionHelpFormatter)
-    form.add_argument("--program", default=f"{ROOT}/crates/scmgc/out/scmgc", help="another build of scmgc")
+    form.add_argument("--program", default=f"{ROOT}/crates/scmgc/out/scmgc", help="another build: out/unproved/scmgc")
     path = form.parse_args().program
     if not (os.path.isfile(path) and os.access(path, os.X_OK)):
-        print(f"{path} is not built: run make build, or make try, and --program out/unproved/scmgc", file=sys.stderr)
+        print(f"{path} is not built: run make build", file=sys.stderr)
         return 2
     results = [is_right for build in builds(path) for is_right in tried(build)]
     print(f"{sum(results)} passed, {len(results) - sum(results)} failed")

@@ -568,10 +568,10 @@ PARTS = [command_lines, races, benchmarks, lines, cut_scripts, streams, long_scr
 
 def main() -> int:
     form = argparse.ArgumentParser(description=__doc__, formatter_class=argparse.RawDescriptionHelpFormatter)
-    form.add_argument("--program", default=f"{ROOT}/crates/scmgc/out/scmgc", help="another build of scmgc")
+    form.add_argument("--program", default=f"{ROOT}/crates/scmgc/out/scmgc", help="another build: out/unproved/scmgc")
     path = form.parse_args().program
     if not (os.path.isfile(path) and os.access(path, os.X_OK)):
-        print(f"{path} is not built: run make build, or make try, and --program out/unproved/scmgc", file=sys.stderr)
+        print(f"{path} is not built: run make build", file=sys.stderr)
         return 2
     checks: List[Check] = [check for part in PARTS for check in part(Program(path))]
     faults = [(name, found) for name, found, is_right in checks if not is_right]

@@ -5,7 +5,6 @@
 # Builds examples/unixbox, and runs the programs of tests/unixbox natively and under it: by slices of
 # one file and by whole passes, with all places recounted and checked after each call. The outputs
 # are the same, and unixbox finds nothing wrong. With the collector off, the check of a cycle fails.
-# A call that frees nothing is followed by a recount too.
 # All of it is done again with unixbox under the sanitizers. What cannot be run here is left out,
 # with a line that says so. The first that fails ends the script.
 set -eu
@@ -50,6 +49,12 @@ same() {
     done
 }
 
+# A call that frees nothing is followed by a recount too.
+recounts() {
+    timeout 60 "$1" --check --script "$room/steps" -- sh -c "exec 9>&1" > "$room/layer" 2> "$room/said"
+    grep -A 1 " dup2 1 9\$" "$room/steps" | grep -q "^check\$" || fails "no recount after a dup2"
+}
+
 # Runs the programs under a build of unixbox.
 plays() {
     for name in descriptors arguments senders; do
@@ -63,8 +68,6 @@ plays() {
         fails "a cycle is freed with --gc=none"
     fi
     grep -q "not so: poll" "$room/said" || fails "the check of a cycle ends otherwise"
-    timeout 60 "$1" --check --script "$room/steps" -- sh -c "exec 9>&1" > "$room/layer" 2> "$room/said"
-    grep -A 1 " dup2 1 9\$" "$room/steps" | grep -q "^check\$" || fails "no recount after a dup2"
     echo "unixbox: the programs passed$2"
 }
 
@@ -78,6 +81,7 @@ fi
 build="$cc $checks -Iinclude examples/unixbox/*.c $library -lpthread"
 $build -o "$room/unixbox"
 plays "$room/unixbox" ""
+recounts "$room/unixbox"
 echo 'int main(void) { return 0; }' > "$room/empty.c"
 if $cc $sanitizers "$room/empty.c" -o "$room/empty" 2> "$room/why" && "$room/empty"; then
     $build $sanitizers -o "$room/unixbox_checked"
