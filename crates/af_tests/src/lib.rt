@@ -4,6 +4,8 @@
 #[cfg(test)]
 mod books;
 #[cfg(test)]
+mod checkpoints;
+#[cfg(test)]
 mod gates;
 #[cfg(test)]
 mod runs;
