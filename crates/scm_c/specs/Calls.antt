@@ -8,30 +8,30 @@ use Rattle.af_base.specs.declared.events.Event.{Event}
 use Rattle.af_base.specs.declared.events.Reply.{Reply}
 use Rattle.scm_c.specs.Codes.{code_of, error_code, no_engine}
 
--- The engine does this event with this reply: one step of the machine.
-abbrev pub Does : Option Machine → Event → Reply → Option Machine → Type 0
-Does old event r new = (m : Machine) × (n : Machine) × (old ≡ Some m) × (new ≡ Some n) × Step m event r n
+-- The engine behind the handle does this event with this reply: one step of the machine.
+abbrev pub EngineDoes : Option Machine → Event → Reply → Option Machine → Type 0
+EngineDoes old event r new = (m : Machine) × (n : Machine) × (old ≡ Some m) × (new ≡ Some n) × Step m event r n
 
 -- There is no engine, and the call says so.
 abbrev pub Lacks : Option Machine → ℤ → Option Machine → Type 0
 Lacks old result new = (old ≡ None) × (new ≡ None) × (result ≡ no_engine)
 
 -- The call does this event, and its answer is the reply's number; or there is no engine.
-abbrev pub Calls : Option Machine → Event → ℤ → Option Machine → Type 0
-Calls old event result new = ((r : Reply) × Does old event r new × (result ≡ code_of r))
+abbrev pub DoesEvent : Option Machine → Event → ℤ → Option Machine → Type 0
+DoesEvent old event result new = ((r : Reply) × EngineDoes old event r new × (result ≡ code_of r))
     ⊎ Lacks old result new
 
--- The same, of a call that writes to the caller's places too: by the reply, `x` there becomes `y`.
--- Without an engine it writes nothing.
-abbrev pub CallsInto : {X : Type 0} → Option Machine → Event → (Reply → X → X) → X → ℤ → X
+-- The call does this event, answers the reply's number, and writes to the caller's places: by the
+-- reply, `x` there becomes `y`. Or there is no engine, and it writes nothing.
+abbrev pub DoesAndWrites : {X : Type 0} → Option Machine → Event → (Reply → X → X) → X → ℤ → X
     → Option Machine → Type 0
-CallsInto old event written x result y new =
-    ((r : Reply) × Does old event r new × (result ≡ code_of r) × (y ≡ written r x))
+DoesAndWrites old event written x result y new =
+    ((r : Reply) × EngineDoes old event r new × (result ≡ code_of r) × (y ≡ written r x))
     ⊎ (Lacks old result new × (y ≡ x))
 
 -- The call is refused by this error before it comes to the engine, and the engine is as it was.
-abbrev pub Refuses : Option Machine → Errno → ℤ → Option Machine → Type 0
-Refuses old e result new = (result ≡ error_code e) × (new ≡ old)
+abbrev pub RefusesFirst : Option Machine → Errno → ℤ → Option Machine → Type 0
+RefusesFirst old e result new = (result ≡ error_code e) × (new ≡ old)
 
 -- A new engine, without any event; or out of memory, and none.
 abbrev pub Makes : ℤ → Option Machine → Type 0

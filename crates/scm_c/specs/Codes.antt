@@ -7,18 +7,15 @@ use Rattle.af_base.specs.declared.events.Reply.TheVariants as reply
 use Rattle.af_base.specs.declared.events.SockType.{SockType}
 use Rattle.af_base.specs.declared.events.SockType.TheVariants.{Seqpacket, Stream}
 
--- A negative number (the library's convention: errors are below 0).
-abbrev pub below : ℕ → ℤ
-below n = pos 0 -ℤ pos n
-
--- An error as a call answers it: the negative of this project's number.
+-- An error as a call answers it: the negative of this project's number (the library's convention:
+-- errors are below 0).
 abbrev pub error_code : Errno → ℤ
-error_code e = below (number_of e)
+error_code e = pos 0 -ℤ pos (number_of e)
 
 -- The answer of a call on a handle without an engine (this project's own: no error number of the
 -- engine).
 abbrev pub no_engine : ℤ
-no_engine = below 100
+no_engine = pos 0 -ℤ pos 100
 
 -- A reply as the number that a call answers (the manual page of each call: a pid, a descriptor, how
 -- many bytes; 0 at the end of a connection, and without a number to report; 1 for a pass with work

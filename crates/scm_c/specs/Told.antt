@@ -39,7 +39,8 @@ abbrev pub Alters : Option Machine → (Machine → Machine) → ℤ → Option 
 Alters (Some m) f result new = (result ≡ pos 0) × (new ≡ Some (f m))
 Alters None f result new = (result ≡ no_engine) × (new ≡ None)
 
--- The same; or the answer is ENOMEM, and the engine is as it was.
+-- The call answers 0, and the engine becomes this; or it is ENOMEM, and the engine is as it was; or
+-- there is no engine.
 abbrev pub MayAlter : Option Machine → (Machine → Machine) → ℤ → Option Machine → Type 0
 MayAlter (Some m) f result new = ((result ≡ pos 0) × (new ≡ Some (f m)))
     ⊎ ((result ≡ error_code ENOMEM) × (new ≡ Some m))

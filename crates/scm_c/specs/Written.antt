@@ -9,6 +9,7 @@ use Rattle.af_base.specs.declared.events.SockType.{SockType}
 use Rattle.af_base.specs.declared.events.SockType.TheVariants.{Seqpacket, Stream}
 use Rattle.af_base.specs.declared.events.State.{State}
 use Rattle.af_base.specs.declared.events.State.TheVariants as state
+use Rattle.af_report.specs.Table.{peer_number}
 use Rattle.af_steps.specs.declared.views.FileInfo.{FileInfo}
 use Rattle.af_steps.specs.declared.views.FileInfo.TheVariants as shown
 use Rattle.scm_c.specs.declared.messages.CReceived.{CReceived}
@@ -78,18 +79,11 @@ state_number (state.Listening b) = 1
 state_number (state.Connected q) = 2
 state_number state.HungUp = 3
 
--- The live peer of a socket of this state, or 0, which is no inode number.
-abbrev pub peer_number : State → ℕ
-peer_number state.Idle = 0
-peer_number (state.Listening b) = 0
-peer_number (state.Connected q) = q
-peer_number state.HungUp = 0
-
 -- A file as C sees it: nothing live has kind 0, a plain file kind 3 (JW_NO_FILE, JW_PLAIN).
-abbrev pub file_of : Option FileInfo → CFile
-file_of None = record { kind = 0; state = 0; peer = 0; messages = 0; embryos = 0 }
-file_of (Some shown.Plain) = record { kind = 3; state = 0; peer = 0; messages = 0; embryos = 0 }
-file_of (Some (shown.Socket kind s messages embryos)) = record {
+abbrev pub c_file : Option FileInfo → CFile
+c_file None = record { kind = 0; state = 0; peer = 0; messages = 0; embryos = 0 }
+c_file (Some shown.Plain) = record { kind = 3; state = 0; peer = 0; messages = 0; embryos = 0 }
+c_file (Some (shown.Socket kind s messages embryos)) = record {
   kind = type_number kind;
   state = state_number s;
   peer = peer_number s;

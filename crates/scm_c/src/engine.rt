@@ -1,6 +1,6 @@
 //! How an engine is made and freed, and how it does one event.
 ghost use Rattle.std.specs.Prelude.{◌≡◌, None, IfNone, IfSome};
-ghost use Rattle.scm_c.specs.Calls.{Calls, Does, Makes};
+ghost use Rattle.scm_c.specs.Calls.{DoesEvent, EngineDoes, Makes};
 
 use crate::answers::{NO_ENGINE, code, refusal};
 use crate::handle::Handle;
@@ -47,7 +47,7 @@ pub extern "C" fn jw_engine_free(alloc: Global, engine: &mut Handle)
 
 /// Does one event, if there is an engine.
 pub(crate) fn reply_to(engine: &mut Handle, event: &Event) -> Option<Reply>
-    ensures done { IfSome result (λ r. Does engine.old.shown event.now r engine.new.shown) }
+    ensures done { IfSome result (λ r. EngineDoes engine.old.shown event.now r engine.new.shown) }
     ensures none { IfNone result (engine.old.shown ≡ None) }
     ensures still { IfNone result (engine.new.shown ≡ None) }
 {
@@ -59,7 +59,7 @@ pub(crate) fn reply_to(engine: &mut Handle, event: &Event) -> Option<Reply>
 // than a call.
 #[inline(always)]
 pub(crate) fn call(engine: &mut Handle, event: &Event) -> i64
-    ensures { Calls engine.old.shown event.now result engine.new.shown }
+    ensures { DoesEvent engine.old.shown event.now result engine.new.shown }
 {
     match reply_to(engine, event) {
         Some(reply) => code(&reply),
@@ -70,7 +70,7 @@ pub(crate) fn call(engine: &mut Handle, event: &Event) -> i64
 /// Does a step of a process, and answers the number of its reply.
 #[inline(always)]
 pub(crate) fn call_of(engine: &mut Handle, pid: u32, step: Step) -> i64
-    ensures { Calls engine.old.shown (Event.Proc pid step) result engine.new.shown }
+    ensures { DoesEvent engine.old.shown (Event.Proc pid step) result engine.new.shown }
 {
     call(engine, &Event::Proc(Pid(pid), step))
 }

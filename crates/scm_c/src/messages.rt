@@ -1,6 +1,6 @@
 //! Messages: sent, received and peeked at.
 ghost use Rattle.std.specs.Prelude.{◌≡◌, [], length, take};
-ghost use Rattle.scm_c.specs.Calls.{Calls, CallsInto};
+ghost use Rattle.scm_c.specs.Calls.{DoesEvent, DoesAndWrites};
 ghost use Rattle.scm_c.specs.Written.{as_u32, over, received_written, room};
 
 use crate::answers::{NO_ENGINE, code, refusal};
@@ -43,7 +43,7 @@ pub extern "C" fn jw_send(
     bytes: &[u8],
     fds: &[u32],
 ) -> i64
-    ensures { Calls engine.old.shown
+    ensures { DoesEvent engine.old.shown
         (Event.Proc pid (Step.Send fd bytes.now fds.now)) result engine.new.shown }
 {
     let Some(inside) = engine.as_mut() else {
@@ -88,7 +88,7 @@ pub extern "C" fn jw_recv(
     fds: &mut [u32],
     out: &mut CReceived,
 ) -> i64
-    ensures { CallsInto engine.old.shown (Event.Proc pid
+    ensures { DoesAndWrites engine.old.shown (Event.Proc pid
         (Step.Recv fd (room (length bytes.old)) (as_u32 (length fds.old)))) received_written
         (bytes.old, fds.old, out.old) result (bytes.new, fds.new, out.new) engine.new.shown }
 {
@@ -117,7 +117,7 @@ pub extern "C" fn jw_peek(
     fds: &mut [u32],
     out: &mut CReceived,
 ) -> i64
-    ensures { CallsInto engine.old.shown (Event.Proc pid
+    ensures { DoesAndWrites engine.old.shown (Event.Proc pid
         (Step.Peek fd (room (length bytes.old)) (as_u32 (length fds.old)))) received_written
         (bytes.old, fds.old, out.old) result (bytes.new, fds.new, out.new) engine.new.shown }
 {
@@ -138,7 +138,7 @@ fn receive(
     fds: &mut [u32],
     out: &mut CReceived,
 ) -> i64
-    ensures { CallsInto engine.old.shown (Event.Proc pid step) received_written
+    ensures { DoesAndWrites engine.old.shown (Event.Proc pid step) received_written
         (bytes.old, fds.old, out.old) result (bytes.new, fds.new, out.new) engine.new.shown }
 {
     let Some(reply) = reply_to(engine, &Event::Proc(Pid(pid), step)) else {

@@ -1,6 +1,6 @@
 //! Passes of the collector.
 ghost use Rattle.std.specs.Prelude.{◌≡◌};
-ghost use Rattle.scm_c.specs.Calls.{CallsInto};
+ghost use Rattle.scm_c.specs.Calls.{DoesAndWrites};
 ghost use Rattle.scm_c.specs.Written.{begun_written, finished_written};
 
 use crate::answers::{NO_ENGINE, code};
@@ -26,7 +26,7 @@ pub struct CFinished {
 #[must_use]
 #[unsafe(no_mangle)]
 pub extern "C" fn jw_begin(alloc: Global, engine: &mut Handle, pass: &mut u64) -> i64
-    ensures { CallsInto engine.old.shown Event.Begin begun_written pass.old result pass.new
+    ensures { DoesAndWrites engine.old.shown Event.Begin begun_written pass.old result pass.new
         engine.new.shown }
 {
     let Some(reply) = reply_to(engine, &Event::Begin) else {
@@ -50,7 +50,7 @@ pub extern "C" fn jw_slice(
     budget: u32,
     out: &mut CFinished,
 ) -> i64
-    ensures { CallsInto engine.old.shown
+    ensures { DoesAndWrites engine.old.shown
         (Event.Slice budget) finished_written out.old result out.new engine.new.shown }
 {
     collect(engine, &Event::Slice(budget), out)
@@ -63,7 +63,7 @@ pub extern "C" fn jw_slice(
 #[must_use]
 #[unsafe(no_mangle)]
 pub extern "C" fn jw_pass(alloc: Global, engine: &mut Handle, out: &mut CFinished) -> i64
-    ensures { CallsInto engine.old.shown Event.Pass finished_written out.old result out.new
+    ensures { DoesAndWrites engine.old.shown Event.Pass finished_written out.old result out.new
         engine.new.shown }
 {
     collect(engine, &Event::Pass, out)
@@ -71,7 +71,7 @@ pub extern "C" fn jw_pass(alloc: Global, engine: &mut Handle, out: &mut CFinishe
 
 /// Does this event of the collector, and writes what it says of a pass that is over.
 fn collect(engine: &mut Handle, event: &Event, out: &mut CFinished) -> i64
-    ensures { CallsInto engine.old.shown event.now finished_written out.old result out.new
+    ensures { DoesAndWrites engine.old.shown event.now finished_written out.old result out.new
         engine.new.shown }
 {
     let Some(reply) = reply_to(engine, event) else {

@@ -1,5 +1,5 @@
 //! Processes and their tables.
-ghost use Rattle.scm_c.specs.Calls.{Calls};
+ghost use Rattle.scm_c.specs.Calls.{DoesEvent};
 
 use crate::answers::{NO_ENGINE, answer, refusal};
 use crate::engine::{call, call_of};
@@ -22,7 +22,8 @@ pub extern "C" fn jw_spawn(
     nofile: u32,
     privileged: bool,
 ) -> i64
-    ensures { Calls engine.old.shown (Event.Spawn uid nofile privileged) result engine.new.shown }
+    ensures { DoesEvent engine.old.shown (Event.Spawn uid nofile privileged) result
+        engine.new.shown }
 {
     let event = Event::Spawn {
         uid: Uid(uid),
@@ -38,7 +39,7 @@ pub extern "C" fn jw_spawn(
 #[must_use]
 #[unsafe(no_mangle)]
 pub extern "C" fn jw_open(alloc: Global, engine: &mut Handle, pid: u32) -> i64
-    ensures { Calls engine.old.shown (Event.Proc pid Step.Open) result engine.new.shown }
+    ensures { DoesEvent engine.old.shown (Event.Proc pid Step.Open) result engine.new.shown }
 {
     let Some(inside) = engine.as_mut() else {
         return NO_ENGINE;
@@ -55,7 +56,7 @@ pub extern "C" fn jw_open(alloc: Global, engine: &mut Handle, pid: u32) -> i64
 #[must_use]
 #[unsafe(no_mangle)]
 pub extern "C" fn jw_dup(alloc: Global, engine: &mut Handle, pid: u32, fd: u32) -> i64
-    ensures { Calls engine.old.shown (Event.Proc pid (Step.Dup fd)) result engine.new.shown }
+    ensures { DoesEvent engine.old.shown (Event.Proc pid (Step.Dup fd)) result engine.new.shown }
 {
     call_of(engine, pid, Step::Dup(Fd(fd)))
 }
@@ -67,7 +68,8 @@ pub extern "C" fn jw_dup(alloc: Global, engine: &mut Handle, pid: u32, fd: u32) 
 #[must_use]
 #[unsafe(no_mangle)]
 pub extern "C" fn jw_dup2(alloc: Global, engine: &mut Handle, pid: u32, from: u32, to: u32) -> i64
-    ensures { Calls engine.old.shown (Event.Proc pid (Step.Dup2 from to)) result engine.new.shown }
+    ensures { DoesEvent engine.old.shown (Event.Proc pid (Step.Dup2 from to)) result
+        engine.new.shown }
 {
     call_of(engine, pid, Step::Dup2(Fd(from), Fd(to)))
 }
@@ -77,7 +79,7 @@ pub extern "C" fn jw_dup2(alloc: Global, engine: &mut Handle, pid: u32, from: u3
 /// Errors: JW_ESRCH, JW_EBADF.
 #[unsafe(no_mangle)]
 pub extern "C" fn jw_close(alloc: Global, engine: &mut Handle, pid: u32, fd: u32) -> i64
-    ensures { Calls engine.old.shown (Event.Proc pid (Step.Close fd)) result engine.new.shown }
+    ensures { DoesEvent engine.old.shown (Event.Proc pid (Step.Close fd)) result engine.new.shown }
 {
     let Some(inside) = engine.as_mut() else {
         return NO_ENGINE;
@@ -91,7 +93,7 @@ pub extern "C" fn jw_close(alloc: Global, engine: &mut Handle, pid: u32, fd: u32
 #[must_use]
 #[unsafe(no_mangle)]
 pub extern "C" fn jw_fork(alloc: Global, engine: &mut Handle, pid: u32) -> i64
-    ensures { Calls engine.old.shown (Event.Proc pid Step.Fork) result engine.new.shown }
+    ensures { DoesEvent engine.old.shown (Event.Proc pid Step.Fork) result engine.new.shown }
 {
     call_of(engine, pid, Step::Fork)
 }
@@ -104,7 +106,8 @@ pub extern "C" fn jw_fork(alloc: Global, engine: &mut Handle, pid: u32) -> i64
 #[must_use]
 #[unsafe(no_mangle)]
 pub extern "C" fn jw_limit(alloc: Global, engine: &mut Handle, pid: u32, nofile: u32) -> i64
-    ensures { Calls engine.old.shown (Event.Proc pid (Step.Limit nofile)) result engine.new.shown }
+    ensures { DoesEvent engine.old.shown (Event.Proc pid (Step.Limit nofile)) result
+        engine.new.shown }
 {
     call_of(engine, pid, Step::Limit(nofile))
 }
@@ -114,7 +117,7 @@ pub extern "C" fn jw_limit(alloc: Global, engine: &mut Handle, pid: u32, nofile:
 /// Errors: JW_ESRCH.
 #[unsafe(no_mangle)]
 pub extern "C" fn jw_exit(alloc: Global, engine: &mut Handle, pid: u32) -> i64
-    ensures { Calls engine.old.shown (Event.Proc pid Step.Exit) result engine.new.shown }
+    ensures { DoesEvent engine.old.shown (Event.Proc pid Step.Exit) result engine.new.shown }
 {
     call_of(engine, pid, Step::Exit)
 }

@@ -1,6 +1,6 @@
 //! Sockets: made, named, connected and accepted.
 ghost use Rattle.std.specs.Prelude.{◌≡◌, IfNone, IfSome};
-ghost use Rattle.scm_c.specs.Calls.{Calls, CallsInto, Refuses};
+ghost use Rattle.scm_c.specs.Calls.{DoesEvent, DoesAndWrites, RefusesFirst};
 ghost use Rattle.scm_c.specs.Codes.{type_named};
 ghost use Rattle.scm_c.specs.Written.{pair_written};
 
@@ -36,10 +36,10 @@ pub extern "C" fn jw_pair(
     kind: u32,
     out: &mut CPair,
 ) -> i64
-    ensures made { IfSome (type_named kind) (λ k. CallsInto engine.old.shown
+    ensures made { IfSome (type_named kind) (λ k. DoesAndWrites engine.old.shown
         (Event.Proc pid (Step.Pair k)) pair_written out.old result out.new engine.new.shown) }
     ensures invalid { IfNone (type_named kind)
-        (Refuses engine.old.shown Errno.EINVAL result engine.new.shown) }
+        (RefusesFirst engine.old.shown Errno.EINVAL result engine.new.shown) }
     ensures unwritten { IfNone (type_named kind) (out.new ≡ out.old) }
 {
     let Some(kind) = type_named(kind) else {
@@ -84,9 +84,9 @@ fn type_named(kind: u32) -> Option<SockType>
 #[unsafe(no_mangle)]
 pub extern "C" fn jw_socket(alloc: Global, engine: &mut Handle, pid: u32, kind: u32) -> i64
     ensures made { IfSome (type_named kind) (λ k.
-        Calls engine.old.shown (Event.Proc pid (Step.Socket k)) result engine.new.shown) }
+        DoesEvent engine.old.shown (Event.Proc pid (Step.Socket k)) result engine.new.shown) }
     ensures invalid { IfNone (type_named kind)
-        (Refuses engine.old.shown Errno.EINVAL result engine.new.shown) }
+        (RefusesFirst engine.old.shown Errno.EINVAL result engine.new.shown) }
 {
     match type_named(kind) {
         Some(kind) => call_of(engine, pid, Step::Socket(kind)),
@@ -101,7 +101,7 @@ pub extern "C" fn jw_socket(alloc: Global, engine: &mut Handle, pid: u32, kind: 
 #[must_use]
 #[unsafe(no_mangle)]
 pub extern "C" fn jw_bind(alloc: Global, engine: &mut Handle, pid: u32, fd: u32, name: &[u8]) -> i64
-    ensures { Calls engine.old.shown (Event.Proc pid (Step.Bind fd name.now)) result
+    ensures { DoesEvent engine.old.shown (Event.Proc pid (Step.Bind fd name.now)) result
         engine.new.shown }
 {
     let Some(inside) = engine.as_mut() else {
@@ -122,7 +122,7 @@ pub extern "C" fn jw_listen(
     fd: u32,
     backlog: u32,
 ) -> i64
-    ensures { Calls engine.old.shown
+    ensures { DoesEvent engine.old.shown
         (Event.Proc pid (Step.Listen fd backlog)) result engine.new.shown }
 {
     let step = Step::Listen {
@@ -146,7 +146,7 @@ pub extern "C" fn jw_connect(
     fd: u32,
     name: &[u8],
 ) -> i64
-    ensures { Calls engine.old.shown (Event.Proc pid (Step.Connect fd name.now)) result
+    ensures { DoesEvent engine.old.shown (Event.Proc pid (Step.Connect fd name.now)) result
         engine.new.shown }
 {
     let Some(inside) = engine.as_mut() else {
@@ -162,7 +162,7 @@ pub extern "C" fn jw_connect(
 #[must_use]
 #[unsafe(no_mangle)]
 pub extern "C" fn jw_accept(alloc: Global, engine: &mut Handle, pid: u32, fd: u32) -> i64
-    ensures { Calls engine.old.shown (Event.Proc pid (Step.Accept fd)) result engine.new.shown }
+    ensures { DoesEvent engine.old.shown (Event.Proc pid (Step.Accept fd)) result engine.new.shown }
 {
     call_of(engine, pid, Step::Accept(Fd(fd)))
 }

@@ -2,9 +2,10 @@
 ghost use Rattle.std.specs.Prelude.{◌≡◌, Some, pos};
 ghost use Rattle.std.specs.FinMap as map;
 ghost use Rattle.af_base.specs.Counts.{charged, inflight, refs, total};
+ghost use Rattle.af_report.specs.Table.{peer_number};
 ghost use Rattle.af_steps.specs.FileInfo.{shown_of};
 ghost use Rattle.scm_c.specs.Calls.{Tells, TellsNumber};
-ghost use Rattle.scm_c.specs.Written.{IsNextLive, file_of, peer_number, state_number, type_number};
+ghost use Rattle.scm_c.specs.Written.{IsNextLive, c_file, state_number, type_number};
 
 use crate::answers::NO_ENGINE;
 use crate::handle::Handle;
@@ -137,7 +138,7 @@ pub struct CFile {
 pub extern "C" fn jw_file(alloc: Global, engine: &mut Handle, ino: u64, out: &mut CFile) -> i64
     ensures same { engine.new.shown ≡ engine.old.shown }
     ensures value { Tells engine.old.shown
-        (λ m f. f ≡ file_of (shown_of (map.get m.world.files ino))) out.old result out.new }
+        (λ m f. f ≡ c_file (shown_of (map.get m.world.files ino))) out.old result out.new }
 {
     let Some(inside) = engine.as_mut() else {
         return NO_ENGINE;
@@ -151,7 +152,7 @@ pub extern "C" fn jw_file(alloc: Global, engine: &mut Handle, ino: u64, out: &mu
 
 /// Returns a live file as C sees it.
 fn file_of(info: &FileInfo) -> CFile
-    ensures { result ≡ file_of (Some info.now) }
+    ensures { result ≡ c_file (Some info.now) }
 {
     match info {
         FileInfo::Plain => file_of_kind(3),
