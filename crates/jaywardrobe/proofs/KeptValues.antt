@@ -12,6 +12,7 @@ use Rattle.af_base.specs.declared.events.Step.TheVariants as step
 use Rattle.af_base.specs.Changes.{add_file}
 use Rattle.af_base.specs.Counts.{count_in}
 use Rattle.af_base.specs.Pass.{Begins, GoesOn, Idle, Machine, Pass, PassesWhole, Running}
+use Rattle.af_base.specs.Reached.{is_socket}
 use Rattle.af_base.specs.Run.{fresh}
 use Rattle.af_base.specs.Told.{TellsReleased, was_given}
 use Rattle.af_base.specs.World.{File, IsLive, Map, Plain, Since, World, is_live}
@@ -22,7 +23,7 @@ use Rattle.af_base.proofs.Totals.{total-count}
 use Rattle.af_steps.specs.Outcome.{Does, Refuses, RefusesStart, Starts, finished_reply, progress_reply}
 use Rattle.af_steps.specs.declared.passes.Finished.{Finished}
 use Rattle.af_steps.specs.declared.passes.Progress.{Progress}
-use Rattle.jaywardrobe.specs.OwnedView.{AreOwned, is_socket, kind}
+use Rattle.jaywardrobe.specs.OwnedView.{AreOwned, kind}
 use Rattle.jaywardrobe.proofs.PlainFiles.{Follows, follows-purge, follows-same, follows-spawn, follows-step, is_open, settled-kind}
 
 -- A number that was given stays so, as more are given.

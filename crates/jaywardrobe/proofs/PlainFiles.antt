@@ -8,6 +8,7 @@ use Rattle.af_base.specs.declared.events.Step.{Step}
 use Rattle.af_base.specs.declared.events.Step.TheVariants as step
 use Rattle.af_base.specs.Changes.{add_file, add_process, connected, dequeued, file_with, install, install_all, listening, pushed, queued, with_name, with_queue, with_socket}
 use Rattle.af_base.specs.Pass.{Purges, emptied, empty_file}
+use Rattle.af_base.specs.Reached.{is_socket}
 use Rattle.af_base.specs.Refusals.{ino_named, ino_on, peer_of, socket_named, socket_on}
 use Rattle.af_base.specs.Steps.{connected_socket, effect, got_at, idle_socket, spawned, taken_on, with_pair}
 use Rattle.af_base.specs.Unheld.{Settles, file_without}
@@ -16,7 +17,7 @@ use Rattle.af_base.proofs.Lookups.{insert-here, insert-other, same_or_not}
 use Rattle.af_base.proofs.PurgeOrder.{get-emptied}
 use Rattle.af_base.proofs.SettledWorlds.{get-without}
 use Rattle.af_base.proofs.AllowedSteps.{get-change_at}
-use Rattle.jaywardrobe.specs.OwnedView.{is_socket, kind}
+use Rattle.jaywardrobe.specs.OwnedView.{kind}
 
 -- Each file is what it was, or is a new socket.
 abbrev Stays : World → World → ℕ → Type 0

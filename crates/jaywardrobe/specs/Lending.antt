@@ -7,7 +7,7 @@ use Rattle.af_base.specs.Refusals.{ino_on}
 use Rattle.jaywardrobe.specs.OwnedView.{OwnedView}
 use Rattle.jaywardrobe.specs.contracts.owned.Owned as owned
 
--- The same with another value behind the file of a descriptor of process p.
+-- The view with this value behind the file of descriptor n of process p.
 abbrev pub with_value_at : {T : Type 0} → OwnedView T → ℕ → ℕ → T → OwnedView T
 with_value_at o p n w = record o { values = map.insert o.values (ino_on o.machine.world p n) w }
 

@@ -3,19 +3,15 @@
 use Rattle.std.specs.Prelude.{◌≡◌, ◌<◌, ◌≤◌, ℕ, Bool, true, false, not, Option, Some, IsTrue, option_map}
 use Rattle.std.specs.FinMap as map
 use Rattle.af_base.specs.Pass.{Machine}
+use Rattle.af_base.specs.Reached.{is_socket}
 use Rattle.af_base.specs.Told.{was_given}
-use Rattle.af_base.specs.World.{AsSocket, File, Map, Plain, World, is_live}
+use Rattle.af_base.specs.World.{Map, World, is_live}
 
 -- The machine, and by inode number the values of the plain files that are live, or were freed
 -- without their value being handed back yet.
 pub record OwnedView (T : Type 0) : Type 0 where
   pub machine : Machine
   pub values : Map T
-
--- Whether a file is a socket.
-abbrev pub is_socket : File → Bool
-is_socket Plain = false
-is_socket (AsSocket s) = true
 
 -- Whether the file f is a socket; an unknown file has no answer.
 abbrev pub kind : World → ℕ → Option Bool
