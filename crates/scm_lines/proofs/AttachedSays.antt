@@ -5,8 +5,8 @@ use Rattle.std.proofs.Math.Seq.{take-append_seam, drop-append-add}
 use Rattle.std.proofs.lemmas.Grind.{common_steps}
 use Rattle.std.proofs.lemmas.List.{drop_more, take-append-drop}
 use Rattle.std.proofs.lemmas.List.Quantifiers.{position-Some}
-use Rattle.scm_lines.specs.Numbers.{all_digits, is_digit, number_of}
-use Rattle.scm_lines.specs.Attached.{attached_of, copies_of, item_at, item_of, items_of, joined}
+use Rattle.scm_lines.specs.Numbers.{all_digits, is_digit, word_number}
+use Rattle.scm_lines.specs.Attached.{attached_of, copies_of, item_at, item_of, items_of, joined_items}
 use Rattle.scm_lines.specs.Spelling.{AreItems, IsAttached, IsItem, IsNumber}
 use Rattle.af_base.proofs.DerivedEquality.{both}
 use Rattle.scm_lines.proofs.Choices.{at_most-few, chained, few, guarded, mapped}
@@ -19,7 +19,7 @@ is_star b = b == 42
 -- ---- items that are read
 
 -- Joined numbers come from the first and from the others.
-joined_parts : (o r : Option (List ℕ)) (y : List ℕ) → joined o r ≡ Some y → (first others : List ℕ) × ((o ≡ Some first) × (r ≡ Some others) × (first ++ others ≡ y))
+joined_parts : (o r : Option (List ℕ)) (y : List ℕ) → joined_items o r ≡ Some y → (first others : List ℕ) × ((o ≡ Some first) × (r ≡ Some others) × (first ++ others ≡ y))
 joined_parts None r y e = cc
 joined_parts (Some first) None y e = cc
 joined_parts (Some first) (Some others) y e = (first, others, (refl, refl, cc))
@@ -46,10 +46,10 @@ item_said : (word fds : List ℕ) → item_of word ≡ Some fds → IsItem word 
 item_said word fds e = by_star (position is_star word) refl e
   where
     by_star : (at : Option ℕ) → position is_star word ≡ at → item_at word at ≡ Some fds → IsItem word fds
-    by_star None p e = let (n, (found, same)) = mapped _ (number_of word) fds e in inl (n, (number_said word n found, sym same))
+    by_star None p e = let (n, (found, same)) = mapped _ (word_number word) fds e in inl (n, (number_said word n found, sym same))
     by_star (Some i) p e =
-        let (n, (e1, f1)) = chained _ (number_of (take i word)) fds e in
-        let (k, (e2, f2)) = chained _ (number_of (drop (i + 1) word)) fds f1 in
+        let (n, (e1, f1)) = chained _ (word_number (take i word)) fds e in
+        let (k, (e2, f2)) = chained _ (word_number (drop (i + 1) word)) fds f1 in
         let (some, few, same) = copies_said n k fds f2 in
         inr (take i word, drop (i + 1) word, (n, k, around_star word i p, number_said _ n e1, number_said _ k e2, some, few, same))
 
@@ -118,7 +118,7 @@ item_read word fds (inl (n, (number, e))) = rw (position_none word (number_digit
 item_read word fds (inr (front, back, (n, k, w, m, l, some, few, e))) = rw (w, e) (starred_read front back n k m l some few)
 
 -- A number alone is one descriptor.
-pub number_item : (word : List ℕ) (n : ℕ) → number_of word ≡ Some n → item_of word ≡ Some (n ∷ [])
+pub number_item : (word : List ℕ) (n : ℕ) → word_number word ≡ Some n → item_of word ≡ Some (n ∷ [])
 number_item word n read = item_read word (n ∷ []) (inl (n, (number_said word n read, refl)))
 
 -- Items of the table are read so.

@@ -6,7 +6,7 @@ use Rattle.scm_lines.specs.Numbers.{all_digits, is_digit}
 use Rattle.scm_lines.specs.Payload.{at_most, byte_before, unescape}
 use Rattle.scm_lines.specs.Fitting.{digits_reason, number_reason}
 use Rattle.scm_lines.specs.declared.reason.Reason.TheVariants as reason
-use Rattle.scm_lines.specs.Attached.{item_of, items_of, joined}
+use Rattle.scm_lines.specs.Attached.{item_of, items_of, joined_items}
 
 -- ---- bytes that fail a test
 
@@ -62,7 +62,7 @@ pub counted_item : (n : ℕ) (word : List ℕ) (words : List (List ℕ)) (item :
     → counted n (items_of (word ∷ words)) ≡ counted (n + length item) (items_of words)
 counted_item n word words item h = rw h (by_rest (items_of words))
   where
-    by_rest : (rest : Option (List ℕ)) → counted n (joined (Some item) rest) ≡ counted (n + length item) rest
+    by_rest : (rest : Option (List ℕ)) → counted n (joined_items (Some item) rest) ≡ counted (n + length item) rest
     by_rest None = refl
     by_rest (Some items) = ap Some (grind (arith, length-append))
 

@@ -11,7 +11,7 @@ use Rattle.scm_lines.specs.Words.{all_printable, at_end}
 use Rattle.scm_lines.specs.Attached.{attached_of}
 use Rattle.scm_lines.specs.Keywords.{meaning, privilege_of, type_of, types}
 use Rattle.scm_lines.specs.Spelling.{IsPrivilege, type_name}
-use Rattle.scm_lines.specs.Forms.{Form, FormRow, Kind, SaysForm, SaysRow, SaysWord, Value, end, items, name, named, number, payload, privilege, read_by, read_form, sockets, two, value_in, value_of, ◌◂◌}
+use Rattle.scm_lines.specs.Forms.{Form, FormRow, Kind, SaysForm, SaysRow, SaysWord, Value, end, items, name, row_named, number, payload, privilege, read_by, read_form, sockets, two, value_in, word_value, ◌◂◌}
 use Rattle.af_base.proofs.DerivedEquality.{both}
 use Rattle.scm_lines.proofs.Choices.{allowed, bound, chosen, ended, guarded, mapped, same_word}
 use Rattle.scm_lines.proofs.NumberLemmas.{number_read, number_said}
@@ -47,7 +47,7 @@ type_read Stream = refl
 type_read Seqpacket = refl
 
 -- A word that is read is one that the table has for its value.
-word_said : (k : Kind) (word : List ℕ) (v : Value k) → value_of k word ≡ Some v → SaysWord k word v
+word_said : (k : Kind) (word : List ℕ) (v : Value k) → word_value k word ≡ Some v → SaysWord k word v
 word_said number word v e = number_said word v e
 word_said sockets word v e = type_said word v e
 word_said name word v e = guarded (all_printable word) word v e
@@ -55,7 +55,7 @@ word_said payload word v e = payload_said word v e
 word_said two word v e = same_word word (codes "2") (guarded (bytes_eq word (codes "2")) tt v e).0
 
 -- A word that the table has for a value is read so.
-word_read : (k : Kind) (word : List ℕ) (v : Value k) → SaysWord k word v → value_of k word ≡ Some v
+word_read : (k : Kind) (word : List ℕ) (v : Value k) → SaysWord k word v → word_value k word ≡ Some v
 word_read number word v says = number_read word v says
 word_read sockets word v says = rw says (type_read v)
 word_read name word v (printable, is) = rw printable (ap Some is)
@@ -100,7 +100,7 @@ form_said (items makes) words x e = let (fds, (e1, is)) = mapped makes (attached
 form_said (k ◂ form) [] x e = cc
 form_said (k ◂ form) (word ∷ words) x e =
     let (found, (e1, e2)) = bound (value_in k (word ∷ words)) (λ found. read_form (form found.0) found.1) x e in
-    let (v, (e3, is)) = mapped (λ v. (v, words)) (value_of k word) found e1 in
+    let (v, (e3, is)) = mapped (λ v. (v, words)) (word_value k word) found e1 in
     (v, (word_said k word v e3, form_said (form v) words x (subst (λ (found : Value k × List (List ℕ)). read_form (form found.0) found.1 ≡ Some x) (sym is) e2)))
 
 -- Words in a form are read so.
@@ -122,9 +122,9 @@ form_printable (k ◂ form) (word ∷ words) x (v, (first, others)) = both_true 
 -- ---- tables
 
 -- A row that is found by a keyword has it.
-pub named_said : {K A : Type 0} (row : K → FormRow A) (keys : List K) (word : List ℕ) (k : K) → named row keys word ≡ Some k → word ≡ (row k).0
+pub named_said : {K A : Type 0} (row : K → FormRow A) (keys : List K) (word : List ℕ) (k : K) → row_named row keys word ≡ Some k → word ≡ (row k).0
 named_said row [] word k e = cc
-named_said row (key ∷ keys) word k e = elim (chosen (bytes_eq (row key).0 word) (Some key) (named row keys word) (Some k) e) [
+named_said row (key ∷ keys) word k e = elim (chosen (bytes_eq (row key).0 word) (Some key) (row_named row keys word) (Some k) e) [
   | inl (same, is) ↦ sym (same_word (row key).0 word same) ∙ ap (λ x. (row x).0) (same_Some key k is)
   | inr (other, later) ↦ named_said row keys word k later
 ]
@@ -132,11 +132,11 @@ named_said row (key ∷ keys) word k e = elim (chosen (bytes_eq (row key).0 word
 -- Words that are read by a row are in one of the rows.
 pub row_said : {K A : Type 0} (row : K → FormRow A) (keys : List K) (word : List ℕ) (words : List (List ℕ)) (x : A) → read_by row keys word words ≡ Some x → SaysRow row word words x
 row_said row keys word words x e =
-    let (k, (e1, e2)) = bound (named row keys word) (λ k. read_form (row k).1 words) x e in
+    let (k, (e1, e2)) = bound (row_named row keys word) (λ k. read_form (row k).1 words) x e in
     (k, named_said row keys word k e1, form_said (row k).1 words x e2)
 
 -- Words in a row are read so.
-pub row_read : {K A : Type 0} (row : K → FormRow A) (keys : List K) → ((k : K) → named row keys (row k).0 ≡ Some k) → (word : List ℕ) (words : List (List ℕ)) (x : A)
+pub row_read : {K A : Type 0} (row : K → FormRow A) (keys : List K) → ((k : K) → row_named row keys (row k).0 ≡ Some k) → (word : List ℕ) (words : List (List ℕ)) (x : A)
     → SaysRow row word words x → read_by row keys word words ≡ Some x
 row_read row keys all word words x (k, is, says) = rw (is, all k) (form_read (row k).1 words x says)
 
@@ -159,7 +159,7 @@ other_word test key word passes fails = by (bytes_eq key word) refl
     by false other = refl
 
 -- So a word that fails it is none.
-pub no_key : {K A : Type 0} (test : List ℕ → Bool) (row : K → FormRow A) (keys : List K) (word : List ℕ) → keys_pass test row keys ≡ true → test word ≡ false → named row keys word ≡ None
+pub no_key : {K A : Type 0} (test : List ℕ → Bool) (row : K → FormRow A) (keys : List K) (word : List ℕ) → keys_pass test row keys ≡ true → test word ≡ false → row_named row keys word ≡ None
 no_key test row [] word pass fails = refl
 no_key test row (key ∷ keys) word pass fails =
     let (first, others) = both (test (row key).0) (keys_pass test row keys) pass in

@@ -7,7 +7,7 @@ use Rattle.scm_lines.specs.Words.{all_printable, at_end, no_words, ◌>>=◌}
 use Rattle.scm_lines.specs.Attached.{attached_of}
 use Rattle.scm_lines.specs.Keywords.{privilege_of}
 use Rattle.scm_lines.specs.Fitting.{fits_word, fits_words}
-use Rattle.scm_lines.specs.Forms.{Form, Kind, Value, end, items, line_row, name, number, payload, privilege, read_form, sockets, step_row, two, value_of, ◌◂◌}
+use Rattle.scm_lines.specs.Forms.{Form, Kind, Value, end, items, line_row, name, number, payload, privilege, read_form, sockets, verb_row, two, word_value, ◌◂◌}
 use Rattle.scm_lines.specs.declared.explain.Last.{Last}
 use Rattle.scm_lines.specs.declared.explain.Last.TheVariants as last
 use Rattle.scm_lines.specs.declared.explain.Wanted.{Wanted}
@@ -36,7 +36,7 @@ HasWords (k ◂ form) (first ∷ others) ending = (kind_of first ≡ k) × ((v :
 HasWords form wanted ending = ⊥
 
 -- A word fits what is wanted exactly if it is read.
-word_fits : (first : Wanted) (word : List ℕ) → fits_word first word ≡ is_some (value_of (kind_of first) word)
+word_fits : (first : Wanted) (word : List ℕ) → fits_word first word ≡ is_some (word_value (kind_of first) word)
 word_fits wanted.Number word = refl
 word_fits wanted.Type word = refl
 word_fits wanted.Name word = by (all_printable word)
@@ -79,7 +79,7 @@ words_fit (items makes) (first ∷ others) ending has words = absurd has
 words_fit (k ◂ form) [] ending has words = absurd has
 words_fit (k ◂ form) (first ∷ others) ending has [] = refl
 words_fit {A} (k ◂ form) (first ∷ others) ending (is, has) (word ∷ words) =
-    rw (word_fits first word ∙ ap (λ k. is_some (value_of k word)) is) (by (value_of k word) (λ v. words_fit (form v) others ending (has v) words))
+    rw (word_fits first word ∙ ap (λ k. is_some (word_value k word)) is) (by (word_value k word) (λ v. words_fit (form v) others ending (has v) words))
   where
     by : (v : Option (Value k)) → ((v : Value k) → fits_words others ending words ≡ is_some (read_form (form v) words))
         → (is_some v && fits_words others ending words) ≡ is_some (option_map (λ v. (v, words)) v >>= λ (found : Value k × List (List ℕ)). read_form (form found.0) found.1)
@@ -108,7 +108,7 @@ step_words verb.Peek = (wanted.Number ∷ wanted.Number ∷ wanted.Number ∷ []
 step_words verb.Limit = (wanted.Number ∷ [], last.Nothing)
 
 -- The form of a step has the words that are wanted of it.
-step_has : (v : Verb) → HasWords (step_row v).1 (step_words v).0 (step_words v).1
+step_has : (v : Verb) → HasWords (verb_row v).1 (step_words v).0 (step_words v).1
 step_has verb.Send = (refl, λ on. (refl, λ bytes. tt))
 step_has verb.Recv = (refl, λ on. (refl, λ max_bytes. (refl, λ max_fds. tt)))
 step_has verb.Open = tt
@@ -127,8 +127,8 @@ step_has verb.Peek = (refl, λ on. (refl, λ max_bytes. (refl, λ max_fds. tt)))
 step_has verb.Limit = (refl, λ nofile. tt)
 
 -- So words that do not fit are read as no step.
-pub step_fits : (v : Verb) (words : List (List ℕ)) → not (fits_words (step_words v).0 (step_words v).1 words) ≡ is_none (read_form (step_row v).1 words)
-step_fits v words = ap not (words_fit (step_row v).1 (step_words v).0 (step_words v).1 (step_has v) words) ∙ none_not_some (read_form (step_row v).1 words)
+pub step_fits : (v : Verb) (words : List (List ℕ)) → not (fits_words (step_words v).0 (step_words v).1 words) ≡ is_none (read_form (verb_row v).1 words)
+step_fits v words = ap not (words_fit (verb_row v).1 (step_words v).0 (step_words v).1 (step_has v) words) ∙ none_not_some (read_form (verb_row v).1 words)
 
 -- The words of a keyword's row.
 abbrev line_words : Keyword → List Wanted × Last

@@ -4,8 +4,8 @@ use Rattle.std.specs.Cmp.Derive.{both_true}
 use Rattle.std.proofs.lemmas.Grind.{common_steps}
 use Rattle.af_base.specs.declared.events.Step.{Step}
 use Rattle.scm_lines.specs.Words.{all_printable, begins_comment, ends_word, is_blank, is_comment, onto_word, words_of}
-use Rattle.scm_lines.specs.Numbers.{number_of}
-use Rattle.scm_lines.specs.Forms.{keywords, line_row, step_row, verbs}
+use Rattle.scm_lines.specs.Numbers.{word_number}
+use Rattle.scm_lines.specs.Forms.{keywords, line_row, verb_row, verbs}
 use Rattle.scm_lines.specs.Meaning.{form_of, line_behind, line_of, step_of, words_say}
 use Rattle.scm_lines.specs.Says.{IsLine, Says, SaysStep}
 use Rattle.scm_lines.specs.declared.line.Line.{Line}
@@ -23,18 +23,18 @@ use Rattle.scm_lines.proofs.KeywordLemmas.{keyword_found, keyword_letters, keywo
 step_said : (words : List (List ℕ)) (does : Step) → step_of words ≡ Some does → SaysStep words does
 unfolding step_of
 step_said [] does e = cc
-step_said (word ∷ words) does e = row_said step_row verbs word words does e
+step_said (word ∷ words) does e = row_said verb_row verbs word words does e
 
 -- A step in the table is read so.
 step_read : (words : List (List ℕ)) (does : Step) → SaysStep words does → step_of words ≡ Some does
 unfolding step_of
 step_read [] does says = absurd says
-step_read (word ∷ words) does says = row_read step_row verbs verb_found word words does says
+step_read (word ∷ words) does says = row_read verb_row verbs verb_found word words does says
 
 -- The words of a step are printable.
 step_printable : (words : List (List ℕ)) (does : Step) → SaysStep words does → words_printable words ≡ true
 step_printable [] does says = absurd says
-step_printable (word ∷ words) does says = row_printable step_row verb_printable word words does says
+step_printable (word ∷ words) does says = row_printable verb_row verb_printable word words does says
 
 -- ---- the words of a line
 
@@ -42,9 +42,9 @@ step_printable (word ∷ words) does says = row_printable step_row verb_printabl
 words_said : (words : List (List ℕ)) (said : Line) → words_say words ≡ Some said → Says words said
 unfolding form_of
 words_said [] said e = cc
-words_said (word ∷ words) said e = by (number_of word) refl e
+words_said (word ∷ words) said e = by (word_number word) refl e
   where
-    by : (n : Option ℕ) → number_of word ≡ n → line_behind n word words ≡ Some said → Says (word ∷ words) said
+    by : (n : Option ℕ) → word_number word ≡ n → line_behind n word words ≡ Some said → Says (word ∷ words) said
     by (Some pid) number e = let (does, (e1, is)) = mapped _ (step_of words) said e in inl (pid, does, number_said word pid number, step_said words does e1, is)
     by None other e = inr (row_said line_row keywords word words said e)
 
@@ -54,7 +54,7 @@ unfolding form_of
 words_read [] said e = ap Some e
 words_read (word ∷ words) said (inl (pid, does, number, says, is)) = rw (number_read word pid number, step_read words does says) (ap Some is)
 words_read (word ∷ words) said (inr (k, is, says)) =
-    rw (ap number_of is ∙ keyword_letters k) (row_read line_row keywords keyword_found word words said (k, is, says))
+    rw (ap word_number is ∙ keyword_letters k) (row_read line_row keywords keyword_found word words said (k, is, says))
 
 -- The words of a line are printable.
 says_printable : (words : List (List ℕ)) (said : Line) → Says words said → words_printable words ≡ true

@@ -4,7 +4,7 @@ use Rattle.std.specs.Fmt.{decimal}
 use Rattle.std.proofs.lemmas.Fmt.{decimal_digit, decimal_nonempty, digits_decimal, digits_value-decimal, first_decimal, length-decimal-le, decimal-digits_value}
 use Rattle.std.proofs.lemmas.Str.Parse.{IsNumeralModel, numerals_by_fold}
 use Rattle.std.proofs.lemmas.Grind.{common_steps}
-use Rattle.scm_lines.specs.Numbers.{all_digits, is_digit, is_numeral, leads_with_zero, number_of, value_on}
+use Rattle.scm_lines.specs.Numbers.{all_digits, is_digit, is_numeral, leads_with_zero, word_number, value_on}
 use Rattle.scm_lines.specs.Spelling.{IsNumber}
 use Rattle.af_base.proofs.DerivedEquality.{both}
 use Rattle.scm_lines.proofs.Choices.{guarded}
@@ -29,7 +29,7 @@ numeral_parts : (word : List ℕ) → is_numeral word ≡ true → (0 < length w
 numeral_parts word e = (grind (arith, common_steps), grind (arith, common_steps), grind (arith, common_steps))
 
 -- A number that is read is spelt as one.
-pub number_said : (word : List ℕ) (n : ℕ) → number_of word ≡ Some n → IsNumber word n
+pub number_said : (word : List ℕ) (n : ℕ) → word_number word ≡ Some n → IsNumber word n
 number_said word n e =
     let (test, same) = guarded (is_numeral word && nat_lt (value_on 0 word) (2 ^ 32)) (value_on 0 word) n e in
     let (numeral, small) = both (is_numeral word) (nat_lt (value_on 0 word) (2 ^ 32)) test in
@@ -64,7 +64,7 @@ decimal_numeral n h =
     grind (arith, common_steps)
 
 -- A number spelt as one is read so.
-pub number_read : (word : List ℕ) (n : ℕ) → IsNumber word n → number_of word ≡ Some n
+pub number_read : (word : List ℕ) (n : ℕ) → IsNumber word n → word_number word ≡ Some n
 number_read word n (small, text) =
     let numeral = decimal_numeral n small in
     let value : value_on 0 (decimal n) ≡ n = digits_value-decimal own n (omega arith) in

@@ -2,7 +2,7 @@
 use Rattle.std.proofs.Common.{◌≡◌, ℕ, ◌<◌, ◌≤◌, ◌==◌, List, [], ◌∷◌, true, false, length, nat_le, replicate, Option, Some, None, refl, sym, ap, ◌∙◌, inl, inr, arith, subst, cond, option_and_then}
 use Rattle.std.proofs.lemmas.List.{length-replicate}
 use Rattle.std.proofs.lemmas.Grind.{common_steps}
-use Rattle.scm_lines.specs.Numbers.{number_of}
+use Rattle.scm_lines.specs.Numbers.{word_number}
 use Rattle.scm_lines.specs.Payload.{byte_before, hex_pair, hex_value, is_plain, payload_of, plain_byte, unescape}
 use Rattle.scm_lines.specs.Spelling.{IsPayload, Spells, SpellsByte}
 use Rattle.scm_lines.proofs.Choices.{at_most-few, chained, chosen, few, guarded, mapped}
@@ -59,10 +59,10 @@ payload_said (a ∷ word) bytes e = elim (chosen (a == 42) _ _ _ e) [
       (short, inr (some_bytes a word bytes spelt, spelt))
 ]
   where
-    starred : (a == 42) ≡ true → option_and_then (λ n. cond (nat_le n 65537) (Some (replicate n 120)) None) (number_of word) ≡ Some bytes → IsPayload (a ∷ word) bytes
+    starred : (a == 42) ≡ true → option_and_then (λ n. cond (nat_le n 65537) (Some (replicate n 120)) None) (word_number word) ≡ Some bytes → IsPayload (a ∷ word) bytes
     starred t e1 =
         let star : a ≡ 42 = grind (arith, common_steps) in
-        let (n, (e2, e3)) = chained _ (number_of word) bytes e1 in
+        let (n, (e2, e3)) = chained _ (word_number word) bytes e1 in
         let (small, same) = guarded (nat_le n 65537) (replicate n 120) bytes e3 in
         let short : length bytes ≤ 65537 = subst (λ (l : List ℕ). length l ≤ 65537) same (grind (arith, common_steps, length-replicate)) in
         (short, inl (word, (n, ap (λ (x : ℕ). x ∷ word) star, number_said word n e2, sym same)))

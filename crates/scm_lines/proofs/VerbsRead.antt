@@ -6,9 +6,9 @@ use Rattle.std.proofs.lemmas.Option.{same_Some}
 use Rattle.af_base.specs.declared.events.Step.{Step}
 use Rattle.af_base.specs.declared.events.Event.TheVariants as event
 use Rattle.scm_lines.specs.Words.{begins_comment, words_of, ◌>>=◌}
-use Rattle.scm_lines.specs.Numbers.{all_digits, is_digit, number_in, number_of}
+use Rattle.scm_lines.specs.Numbers.{all_digits, is_digit, first_number, word_number}
 use Rattle.scm_lines.specs.Fitting.{has_verb}
-use Rattle.scm_lines.specs.Forms.{named, read_form, step_row, verbs}
+use Rattle.scm_lines.specs.Forms.{row_named, read_form, verb_row, verbs}
 use Rattle.scm_lines.specs.Meaning.{form_of, line_behind, step_of, words_say}
 use Rattle.scm_lines.specs.Versions.{allowed_in, has_line, is_later, is_second, read_in}
 use Rattle.scm_lines.specs.declared.keywords.Verb.{Verb}
@@ -22,7 +22,7 @@ use Rattle.scm_lines.proofs.LineLemmas.{is_comment_of, line_said_by_words}
 use Rattle.scm_lines.proofs.VersionsFit.{made, verb_makes}
 
 -- A line that begins with a number is no comment.
-not_comment : (w : List ℕ) (n : ℕ) → number_of w ≡ Some n → begins_comment w ≡ false
+not_comment : (w : List ℕ) (n : ℕ) → word_number w ≡ Some n → begins_comment w ≡ false
 not_comment [] n e = refl
 not_comment (b ∷ bytes) n e = above b (both (is_digit b) (all_digits bytes) (number_digits (b ∷ bytes) n (number_said (b ∷ bytes) n e))).0
   where
@@ -34,11 +34,11 @@ abbrev Counts : Option (ℕ × List (List ℕ)) → ℕ → List (List ℕ) → 
 Counts found pid words = ◌≡◌ {A = Option (ℕ × List (List ℕ))} (Some (pid, words)) found
 
 -- A line that begins with a number is no comment.
-words_plain : (ws words : List (List ℕ)) (pid : ℕ) → Counts (number_in ws) pid words → is_comment_of ws ≡ false
+words_plain : (ws words : List (List ℕ)) (pid : ℕ) → Counts (first_number ws) pid words → is_comment_of ws ≡ false
 words_plain [] words pid e = refl
-words_plain (w ∷ others) words pid e = by (number_of w) refl e
+words_plain (w ∷ others) words pid e = by (word_number w) refl e
   where
-    by : (n : Option ℕ) → number_of w ≡ n → Counts (option_map (λ n. (n, others)) n) pid words → begins_comment w ≡ false
+    by : (n : Option ℕ) → word_number w ≡ n → Counts (option_map (λ n. (n, others)) n) pid words → begins_comment w ≡ false
     by None is e = cc
     by (Some m) is e = not_comment w m is
 
@@ -47,18 +47,18 @@ abbrev does_line : ℕ → Step → Line
 does_line pid does = line.Event (event.Proc pid does)
 
 -- Words that a number begins say what the process does.
-words_process : (ws words : List (List ℕ)) (pid : ℕ) → Counts (number_in ws) pid words → words_say ws ≡ option_map (does_line pid) (step_of words)
+words_process : (ws words : List (List ℕ)) (pid : ℕ) → Counts (first_number ws) pid words → words_say ws ≡ option_map (does_line pid) (step_of words)
 unfolding form_of
 words_process [] words pid e = cc
-words_process (w ∷ others) words pid e = by (number_of w) e
+words_process (w ∷ others) words pid e = by (word_number w) e
   where
     by : (n : Option ℕ) → Counts (option_map (λ n. (n, others)) n) pid words → line_behind n w others ≡ option_map (does_line pid) (step_of words)
     by None e = cc
     by (Some m) e = subst (λ (t : ℕ × List (List ℕ)). option_map (does_line m) (step_of others) ≡ option_map (does_line t.0) (step_of t.1)) (sym (same_Some _ _ e)) refl
 
 -- The verb says by which row.
-words_verb : (word : List ℕ) (words more : List (List ℕ)) (k : Verb) → words ≡ word ∷ more → Some k ≡ named step_row verbs word
-    → step_of words ≡ read_form (step_row k).1 more
+words_verb : (word : List ℕ) (words more : List (List ℕ)) (k : Verb) → words ≡ word ∷ more → Some k ≡ row_named verb_row verbs word
+    → step_of words ≡ read_form (verb_row k).1 more
 unfolding step_of
 words_verb word words more k parted is = rw (parted, ← is) refl
 
@@ -70,13 +70,13 @@ passes v pid k (Some does) same has = rw (same does refl, has) refl
 
 -- So a line is read by the row of its verb, where the version has the verb.
 pub read_by_verb : (v : Version) (bytes word : List ℕ) (words more : List (List ℕ)) (pid : ℕ) (k : Verb)
-    → length bytes ≤ MAX_LINE → Counts (number_in (words_of bytes)) pid words
-    → words ≡ word ∷ more → Some k ≡ named step_row verbs word → has_verb v k ≡ true
-    → read_in v bytes ≡ option_map (does_line pid) (read_form (step_row k).1 more)
+    → length bytes ≤ MAX_LINE → Counts (first_number (words_of bytes)) pid words
+    → words ≡ word ∷ more → Some k ≡ row_named verb_row verbs word → has_verb v k ≡ true
+    → read_in v bytes ≡ option_map (does_line pid) (read_form (verb_row k).1 more)
 read_by_verb v bytes word words more pid k short counted parted is has =
-    let row = read_form (step_row k).1 more in
+    let row = read_form (verb_row k).1 more in
     let said : words_say (words_of bytes) ≡ option_map (does_line pid) row =
     words_process (words_of bytes) words pid counted ∙ ap (option_map (does_line pid)) (words_verb word words more k parted is) in
     let whole = line_said_by_words bytes short (words_plain (words_of bytes) words pid counted) ∙ said in
     ap (allowed_in v) whole
-    ∙ passes v pid k row (made (λ does. (not (is_later does) || is_second v) ≡ has_verb v k) (step_row k).1 (verb_makes v k) more) has
+    ∙ passes v pid k row (made (λ does. (not (is_later does) || is_second v) ≡ has_verb v k) (verb_row k).1 (verb_makes v k) more) has

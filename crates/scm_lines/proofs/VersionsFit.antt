@@ -4,11 +4,11 @@ use Rattle.std.specs.Option.{option_map}
 use Rattle.af_base.specs.declared.events.Step.{Step}
 use Rattle.af_base.specs.declared.events.Event.TheVariants as event
 use Rattle.scm_lines.specs.Words.{◌>>=◌}
-use Rattle.scm_lines.specs.Numbers.{number_of}
+use Rattle.scm_lines.specs.Numbers.{word_number}
 use Rattle.scm_lines.specs.Attached.{attached_of}
 use Rattle.scm_lines.specs.Keywords.{privilege_of}
 use Rattle.scm_lines.specs.Fitting.{form_in, has_keyword, has_verb, step_in}
-use Rattle.scm_lines.specs.Forms.{Form, Value, end, items, keywords, line_row, named, privilege, read_form, step_row, value_in, verbs, ◌◂◌}
+use Rattle.scm_lines.specs.Forms.{Form, Value, end, items, keywords, line_row, row_named, privilege, read_form, verb_row, value_in, verbs, ◌◂◌}
 use Rattle.scm_lines.specs.Meaning.{form_of, step_of}
 use Rattle.scm_lines.specs.Versions.{has_line, is_later, is_second}
 use Rattle.scm_lines.specs.declared.keywords.Keyword.{Keyword}
@@ -57,7 +57,7 @@ or_true false = refl
 -- ---- verbs
 
 -- The steps of a verb are of version 2 where the verb is.
-pub verb_makes : (v : Version) (k : Verb) → AllMake (λ does. (not (is_later does) || is_second v) ≡ has_verb v k) (step_row k).1
+pub verb_makes : (v : Version) (k : Verb) → AllMake (λ does. (not (is_later does) || is_second v) ≡ has_verb v k) (verb_row k).1
 verb_makes v verb.Send = λ on bytes fds. refl
 verb_makes v verb.Recv = λ on max_bytes max_fds. refl
 verb_makes v verb.Open = refl
@@ -81,15 +81,15 @@ unfolding step_in step_of
 step_in_none v = refl
 
 -- A word that is no verb says no step.
-pub step_in_other : (v : Version) (word : List ℕ) (words : List (List ℕ)) → None ≡ named step_row verbs word → true ≡ is_none (step_in v (word ∷ words))
+pub step_in_other : (v : Version) (word : List ℕ) (words : List (List ℕ)) → None ≡ row_named verb_row verbs word → true ≡ is_none (step_in v (word ∷ words))
 unfolding step_in step_of
 step_in_other v word words other = rw (← other) refl
 
 -- A verb says a step where its words are read, and the version has it.
-step_in_named : (v : Version) (word : List ℕ) (words : List (List ℕ)) (k : Verb) → Some k ≡ named step_row verbs word
-    → is_none (step_in v (word ∷ words)) ≡ (is_none (read_form (step_row k).1 words) || not (has_verb v k))
+step_in_named : (v : Version) (word : List ℕ) (words : List (List ℕ)) (k : Verb) → Some k ≡ row_named verb_row verbs word
+    → is_none (step_in v (word ∷ words)) ≡ (is_none (read_form (verb_row k).1 words) || not (has_verb v k))
 unfolding step_in step_of
-step_in_named v word words k is = rw (← is) (by (read_form (step_row k).1 words) (made (λ does. (not (is_later does) || is_second v) ≡ has_verb v k) (step_row k).1 (verb_makes v k) words))
+step_in_named v word words k is = rw (← is) (by (read_form (verb_row k).1 words) (made (λ does. (not (is_later does) || is_second v) ≡ has_verb v k) (verb_row k).1 (verb_makes v k) words))
   where
     by : (r : Option Step) → ((does : Step) → r ≡ Some does → (not (is_later does) || is_second v) ≡ has_verb v k)
         → is_none (r >>= λ does. cond (not (is_later does) || is_second v) (Some does) None) ≡ (is_none r || not (has_verb v k))
@@ -101,14 +101,14 @@ step_in_named v word words k is = rw (← is) (by (read_form (step_row k).1 word
         by_version false = refl
 
 -- A verb's misfit is the step's, where there is one or the version has the verb.
-pub step_misfit : (v : Version) (word : List ℕ) (words line : List (List ℕ)) (k : Verb) (misfit : Bool) → line ≡ word ∷ words → Some k ≡ named step_row verbs word
-    → misfit ≡ is_none (read_form (step_row k).1 words) → (misfit ≡ true) ⊎ (has_verb v k ≡ true) → misfit ≡ is_none (step_in v line)
+pub step_misfit : (v : Version) (word : List ℕ) (words line : List (List ℕ)) (k : Verb) (misfit : Bool) → line ≡ word ∷ words → Some k ≡ row_named verb_row verbs word
+    → misfit ≡ is_none (read_form (verb_row k).1 words) → (misfit ≡ true) ⊎ (has_verb v k ≡ true) → misfit ≡ is_none (step_in v line)
 step_misfit v word words line k misfit parted is exact either = rw (parted, step_in_named v word words k is, ← exact) (unless misfit (has_verb v k) either)
 
 -- A step of another version is none.
-pub step_late : (v : Version) (word : List ℕ) (words line : List (List ℕ)) (k : Verb) → line ≡ word ∷ words → Some k ≡ named step_row verbs word
+pub step_late : (v : Version) (word : List ℕ) (words line : List (List ℕ)) (k : Verb) → line ≡ word ∷ words → Some k ≡ row_named verb_row verbs word
     → has_verb v k ≡ false → true ≡ is_none (step_in v line)
-step_late v word words line k parted is late = rw (parted, step_in_named v word words k is, late) (or_true (is_none (read_form (step_row k).1 words)))
+step_late v word words line k parted is late = rw (parted, step_in_named v word words k is, late) (or_true (is_none (read_form (verb_row k).1 words)))
 
 -- ---- keywords
 
@@ -124,7 +124,7 @@ keyword_makes v keyword.Check = refl
 keyword_makes v keyword.Version = λ two. refl
 
 -- A process's number begins a line where its step is one.
-pub form_in_process : (v : Version) (word : List ℕ) (words : List (List ℕ)) (pid : ℕ) → Some pid ≡ number_of word
+pub form_in_process : (v : Version) (word : List ℕ) (words : List (List ℕ)) (pid : ℕ) → Some pid ≡ word_number word
     → is_none (form_in v word words) ≡ is_none (step_in v words)
 unfolding form_in form_of step_in
 form_in_process v word words pid is = rw (← is) (by (step_of words))
@@ -139,13 +139,13 @@ form_in_process v word words pid is = rw (← is) (by (step_of words))
         by_version false = refl
 
 -- A word that is neither a number nor a keyword begins no line.
-pub form_in_other : (v : Version) (word : List ℕ) (words : List (List ℕ)) → None ≡ number_of word → None ≡ named line_row keywords word
+pub form_in_other : (v : Version) (word : List ℕ) (words : List (List ℕ)) → None ≡ word_number word → None ≡ row_named line_row keywords word
     → true ≡ is_none (form_in v word words)
 unfolding form_in form_of
 form_in_other v word words no_number other = rw (← no_number, ← other) refl
 
 -- A keyword begins a line where its words are read, and the version has it.
-form_in_named : (v : Version) (word : List ℕ) (words : List (List ℕ)) (k : Keyword) → None ≡ number_of word → Some k ≡ named line_row keywords word
+form_in_named : (v : Version) (word : List ℕ) (words : List (List ℕ)) (k : Keyword) → None ≡ word_number word → Some k ≡ row_named line_row keywords word
     → is_none (form_in v word words) ≡ (is_none (read_form (line_row k).1 words) || not (has_keyword v k))
 unfolding form_in form_of
 form_in_named v word words k no_number is =
@@ -161,11 +161,11 @@ form_in_named v word words k no_number is =
         by_version false = refl
 
 -- A keyword's misfit is the line's, where there is one or the version has the keyword.
-pub form_misfit : (v : Version) (word : List ℕ) (words : List (List ℕ)) (k : Keyword) (misfit : Bool) → None ≡ number_of word → Some k ≡ named line_row keywords word
+pub form_misfit : (v : Version) (word : List ℕ) (words : List (List ℕ)) (k : Keyword) (misfit : Bool) → None ≡ word_number word → Some k ≡ row_named line_row keywords word
     → misfit ≡ is_none (read_form (line_row k).1 words) → (misfit ≡ true) ⊎ (has_keyword v k ≡ true) → misfit ≡ is_none (form_in v word words)
 form_misfit v word words k misfit no_number is exact either = rw (form_in_named v word words k no_number is, ← exact) (unless misfit (has_keyword v k) either)
 
 -- A line of another version is none.
-pub form_late : (v : Version) (word : List ℕ) (words : List (List ℕ)) (k : Keyword) → None ≡ number_of word → Some k ≡ named line_row keywords word
+pub form_late : (v : Version) (word : List ℕ) (words : List (List ℕ)) (k : Keyword) → None ≡ word_number word → Some k ≡ row_named line_row keywords word
     → has_keyword v k ≡ false → true ≡ is_none (form_in v word words)
 form_late v word words k no_number is late = rw (form_in_named v word words k no_number is, late) (or_true (is_none (read_form (line_row k).1 words)))

@@ -3,7 +3,7 @@ use Rattle.std.specs.Prelude.{ℕ, ◌==◌, ◌&&◌, ◌||◌, List, [], ◌�
 use Rattle.std.specs.Str.{bytes_eq}
 use Rattle.af_base.specs.declared.events.Step.{Step}
 use Rattle.scm_lines.specs.Words.{all_printable, no_words}
-use Rattle.scm_lines.specs.Numbers.{all_digits, number_of}
+use Rattle.scm_lines.specs.Numbers.{all_digits, word_number}
 use Rattle.scm_lines.specs.Payload.{payload_of}
 use Rattle.scm_lines.specs.Attached.{attached_of}
 use Rattle.scm_lines.specs.Keywords.{privilege_of, type_of}
@@ -35,7 +35,7 @@ number_reason word = if all_digits word then digits_reason word else reason.NotA
 
 -- The word is what is wanted.
 abbrev pub fits_word : Wanted → List ℕ → Bool
-fits_word wanted.Number word = is_some (number_of word)
+fits_word wanted.Number word = is_some (word_number word)
 fits_word wanted.Type word = is_some (type_of word)
 fits_word wanted.Name word = all_printable word
 fits_word wanted.Bytes word = is_some (payload_of word)

@@ -7,7 +7,7 @@ use Rattle.af_base.specs.declared.events.Step.{Step}
 use Rattle.af_base.specs.declared.events.Step.TheVariants as step
 use Rattle.af_base.specs.declared.events.Event.TheVariants as event
 use Rattle.scm_lines.specs.Words.{all_printable, at_end, word_as, ◌>>=◌}
-use Rattle.scm_lines.specs.Numbers.{number_of}
+use Rattle.scm_lines.specs.Numbers.{word_number}
 use Rattle.scm_lines.specs.Payload.{payload_of}
 use Rattle.scm_lines.specs.Attached.{attached_of}
 use Rattle.scm_lines.specs.Keywords.{privilege_of, type_of}
@@ -43,16 +43,16 @@ SaysWord payload word bytes = IsPayload word bytes
 SaysWord two word v = word ≡ codes "2"
 
 -- The reading of a word.
-abbrev pub value_of : (k : Kind) → List ℕ → Option (Value k)
-value_of number word = number_of word
-value_of sockets word = type_of word
-value_of name word = if all_printable word then Some word else None
-value_of payload word = payload_of word
-value_of two word = if bytes_eq word (codes "2") then Some tt else None
+abbrev pub word_value : (k : Kind) → List ℕ → Option (Value k)
+word_value number word = word_number word
+word_value sockets word = type_of word
+word_value name word = if all_printable word then Some word else None
+word_value payload word = payload_of word
+word_value two word = if bytes_eq word (codes "2") then Some tt else None
 
 -- The reading of the first word, and the words after it.
 abbrev pub value_in : (k : Kind) → List (List ℕ) → Option (Value k × List (List ℕ))
-value_in k words = word_as (value_of k) words
+value_in k words = word_as (word_value k) words
 
 -- ---- forms
 
@@ -87,26 +87,26 @@ read_form (k ◂ form) words = value_in k words >>= λ v. read_form (form v.0) v
 abbrev pub FormRow : Type 0 → Type 0
 FormRow A = List ℕ × Form A
 
--- The step of a process, by the words after its number.
-abbrev pub step_row : Verb → FormRow Step
-step_row verb.Send = (codes "send", number ◂ λ on. payload ◂ λ bytes. items λ fds. step.Send on bytes fds)
-step_row verb.Recv = (codes "recv", number ◂ λ on. number ◂ λ max_bytes. number ◂ λ max_fds. end (step.Recv on max_bytes max_fds))
-step_row verb.Open = (codes "open", end step.Open)
-step_row verb.Close = (codes "close", number ◂ λ fd. end (step.Close fd))
-step_row verb.Dup = (codes "dup", number ◂ λ fd. end (step.Dup fd))
-step_row verb.Dup2 = (codes "dup2", number ◂ λ from. number ◂ λ to. end (step.Dup2 from to))
-step_row verb.Connect = (codes "connect", number ◂ λ on. name ◂ λ text. end (step.Connect on text))
-step_row verb.Accept = (codes "accept", number ◂ λ fd. end (step.Accept fd))
-step_row verb.Socket = (codes "socket", sockets ◂ λ kind. end (step.Socket kind))
-step_row verb.Pair = (codes "pair", sockets ◂ λ kind. end (step.Pair kind))
-step_row verb.Fork = (codes "fork", end step.Fork)
-step_row verb.Exit = (codes "exit", end step.Exit)
-step_row verb.Bind = (codes "bind", number ◂ λ on. name ◂ λ text. end (step.Bind on text))
-step_row verb.Listen = (codes "listen", number ◂ λ on. number ◂ λ backlog. end (step.Listen on backlog))
-step_row verb.Peek = (codes "peek", number ◂ λ on. number ◂ λ max_bytes. number ◂ λ max_fds. end (step.Peek on max_bytes max_fds))
-step_row verb.Limit = (codes "limit", number ◂ λ nofile. end (step.Limit nofile))
+-- The row of a verb: the step of a process, by the words after its number.
+abbrev pub verb_row : Verb → FormRow Step
+verb_row verb.Send = (codes "send", number ◂ λ on. payload ◂ λ bytes. items λ fds. step.Send on bytes fds)
+verb_row verb.Recv = (codes "recv", number ◂ λ on. number ◂ λ max_bytes. number ◂ λ max_fds. end (step.Recv on max_bytes max_fds))
+verb_row verb.Open = (codes "open", end step.Open)
+verb_row verb.Close = (codes "close", number ◂ λ fd. end (step.Close fd))
+verb_row verb.Dup = (codes "dup", number ◂ λ fd. end (step.Dup fd))
+verb_row verb.Dup2 = (codes "dup2", number ◂ λ from. number ◂ λ to. end (step.Dup2 from to))
+verb_row verb.Connect = (codes "connect", number ◂ λ on. name ◂ λ text. end (step.Connect on text))
+verb_row verb.Accept = (codes "accept", number ◂ λ fd. end (step.Accept fd))
+verb_row verb.Socket = (codes "socket", sockets ◂ λ kind. end (step.Socket kind))
+verb_row verb.Pair = (codes "pair", sockets ◂ λ kind. end (step.Pair kind))
+verb_row verb.Fork = (codes "fork", end step.Fork)
+verb_row verb.Exit = (codes "exit", end step.Exit)
+verb_row verb.Bind = (codes "bind", number ◂ λ on. name ◂ λ text. end (step.Bind on text))
+verb_row verb.Listen = (codes "listen", number ◂ λ on. number ◂ λ backlog. end (step.Listen on backlog))
+verb_row verb.Peek = (codes "peek", number ◂ λ on. number ◂ λ max_bytes. number ◂ λ max_fds. end (step.Peek on max_bytes max_fds))
+verb_row verb.Limit = (codes "limit", number ◂ λ nofile. end (step.Limit nofile))
 
--- The meaning of a line without a process's number.
+-- The row of a keyword: the meaning of a line without a process's number.
 abbrev pub line_row : Keyword → FormRow Line
 line_row keyword.Spawn = (codes "spawn", number ◂ λ uid. number ◂ λ nofile. privilege λ granted. line.Event (event.Spawn uid nofile granted))
 line_row keyword.Begin = (codes "begin", end (line.Event event.Begin))
@@ -117,19 +117,20 @@ line_row keyword.Totals = (codes "totals", end (line.Report report.Totals))
 line_row keyword.Check = (codes "check", end (line.Report report.Check))
 line_row keyword.Version = (codes "version", two ◂ λ v. end line.Version2)
 
--- All verbs and all keywords.
+-- All verbs.
 abbrev pub verbs : List Verb
 verbs =
     verb.Send ∷ verb.Recv ∷ verb.Open ∷ verb.Close ∷ verb.Dup ∷ verb.Dup2 ∷ verb.Connect ∷ verb.Accept
     ∷ verb.Socket ∷ verb.Pair ∷ verb.Fork ∷ verb.Exit ∷ verb.Bind ∷ verb.Listen ∷ verb.Peek ∷ verb.Limit ∷ []
 
+-- All keywords.
 abbrev pub keywords : List Keyword
 keywords = keyword.Spawn ∷ keyword.Begin ∷ keyword.Slice ∷ keyword.Pass ∷ keyword.Table
     ∷ keyword.Totals ∷ keyword.Check ∷ keyword.Version ∷ []
 
--- The row with this keyword.
-abbrev pub named : {K A : Type 0} → (K → FormRow A) → List K → List ℕ → Option K
-named row keys word = find (λ k. bytes_eq (row k).0 word) keys
+-- The key of the row with this keyword, if there is one.
+abbrev pub row_named : {K A : Type 0} → (K → FormRow A) → List K → List ℕ → Option K
+row_named row keys word = find (λ k. bytes_eq (row k).0 word) keys
 
 -- The word is the keyword of a row, and the words behind it are of its form, and make this.
 abbrev pub SaysRow : {K A : Type 0} → (K → FormRow A) → List ℕ → List (List ℕ) → A → Type 0
@@ -137,4 +138,4 @@ SaysRow {K} row word words said = (k : K) × (word ≡ (row k).0) × SaysForm (r
 
 -- The reading of the words after this word.
 abbrev pub read_by : {K A : Type 0} → (K → FormRow A) → List K → List ℕ → List (List ℕ) → Option A
-read_by row keys word words = named row keys word >>= λ k. read_form (row k).1 words
+read_by row keys word words = row_named row keys word >>= λ k. read_form (row k).1 words

@@ -5,8 +5,8 @@ use Rattle.af_base.specs.declared.events.Step.{Step}
 use Rattle.af_base.specs.declared.events.Event.TheVariants as event
 use Rattle.scm_lines.specs.Words.{all_printable, is_comment, word_in, words_of}
 pub use Rattle.scm_lines.specs.Words.{◌>>=◌}
-use Rattle.scm_lines.specs.Numbers.{number_of}
-use Rattle.scm_lines.specs.Forms.{keywords, line_row, named, read_by, step_row, verbs}
+use Rattle.scm_lines.specs.Numbers.{word_number}
+use Rattle.scm_lines.specs.Forms.{keywords, line_row, row_named, read_by, verb_row, verbs}
 use Rattle.scm_lines.specs.declared.keywords.Verb.{Verb}
 use Rattle.scm_lines.specs.declared.keywords.Verb.TheVariants as verb
 use Rattle.scm_lines.specs.declared.line.Line.{Line}
@@ -15,7 +15,7 @@ use Rattle.scm_lines.specs.declared.line.TheConstants.{MAX_LINE}
 
 -- The step of a process, by the words after its number.
 unfoldable pub step_of : List (List ℕ) → Option Step
-step_of words = word_in words >>= λ word. read_by step_row verbs word.0 word.1
+step_of words = word_in words >>= λ word. read_by verb_row verbs word.0 word.1
 
 -- Reading a step of this verb may take memory: for a name, or for bytes and descriptors.
 abbrev pub takes_memory : Option Verb → Bool
@@ -27,7 +27,7 @@ takes_memory other = false
 -- Reading the step of these words, behind a process's number, may take memory.
 abbrev pub step_takes_memory : List (List ℕ) → Bool
 step_takes_memory [] = false
-step_takes_memory (word ∷ words) = takes_memory (named step_row verbs word)
+step_takes_memory (word ∷ words) = takes_memory (row_named verb_row verbs word)
 
 -- Reading the line of these words may take memory.
 abbrev pub line_takes_memory : List (List ℕ) → Bool
@@ -41,7 +41,7 @@ line_behind None word words = read_by line_row keywords word words
 
 -- The meaning of a line that begins with this word.
 unfoldable pub form_of : List ℕ → List (List ℕ) → Option Line
-form_of word words = line_behind (number_of word) word words
+form_of word words = line_behind (word_number word) word words
 
 -- The meaning of the words of a line.
 abbrev pub words_say : List (List ℕ) → Option Line

@@ -28,9 +28,9 @@ is_numeral word = nat_lt 0 (length word) && nat_le (length word) 10 && all_digit
     && not (leads_with_zero word)
 
 -- The number of a word: a numeral below 2 ^ 32.
-abbrev pub number_of : List ℕ → Option ℕ
-number_of word = if is_numeral word && nat_lt (value_on 0 word) (2 ^ 32) then Some (value_on 0 word) else None
+abbrev pub word_number : List ℕ → Option ℕ
+word_number word = if is_numeral word && nat_lt (value_on 0 word) (2 ^ 32) then Some (value_on 0 word) else None
 
 -- The first word as a number, and the words after it.
-abbrev pub number_in : List (List ℕ) → Option (ℕ × List (List ℕ))
-number_in words = word_as number_of words
+abbrev pub first_number : List (List ℕ) → Option (ℕ × List (List ℕ))
+first_number words = word_as word_number words

@@ -1,7 +1,7 @@
 -- The bytes of a message, as a word spells them. This project's profile.
 use Rattle.std.specs.Prelude.{ℕ, ◌+◌, ◌*◌, ◌-◌, ◌==◌, ◌&&◌, ◌||◌, nat_le, List, [], ◌∷◌, Bool, if◌then◌else◌, Option, Some, None, replicate, length, option_and_then}
 use Rattle.std.specs.Option.{option_map}
-use Rattle.scm_lines.specs.Numbers.{is_digit, number_of}
+use Rattle.scm_lines.specs.Numbers.{is_digit, word_number}
 
 -- A letter, a digit, `_`, `-` or `.`.
 abbrev pub is_plain : ℕ → Bool
@@ -49,5 +49,5 @@ abbrev pub payload_of : List ℕ → Option (List ℕ)
 payload_of [] = None
 payload_of (a ∷ word) =
     if a == 42 then option_and_then
-    (λ n. if nat_le n 65537 then Some (replicate n 120) else None) (number_of word)
+    (λ n. if nat_le n 65537 then Some (replicate n 120) else None) (word_number word)
     else at_most 65537 (unescape (a ∷ word))

@@ -4,7 +4,7 @@ use Rattle.af_base.specs.declared.events.Step.{Step}
 use Rattle.af_base.specs.declared.events.Event.TheVariants as event
 use Rattle.scm_lines.specs.Words.{all_printable, is_comment, words_of}
 use Rattle.scm_lines.specs.Spelling.{IsNumber}
-use Rattle.scm_lines.specs.Forms.{SaysRow, line_row, step_row}
+use Rattle.scm_lines.specs.Forms.{SaysRow, line_row, verb_row}
 use Rattle.scm_lines.specs.declared.line.Line.{Line}
 use Rattle.scm_lines.specs.declared.line.Line.TheVariants as line
 use Rattle.scm_lines.specs.declared.line.TheConstants.{MAX_LINE}
@@ -12,7 +12,7 @@ use Rattle.scm_lines.specs.declared.line.TheConstants.{MAX_LINE}
 -- The words after a process's number that say this step.
 abbrev pub SaysStep : List (List ℕ) → Step → Type 0
 SaysStep [] does = ⊥
-SaysStep (word ∷ words) does = SaysRow step_row word words does
+SaysStep (word ∷ words) does = SaysRow verb_row word words does
 
 -- A process's number and the words of a step.
 abbrev pub SaysProcess : List ℕ → List (List ℕ) → Line → Type 0

@@ -3,7 +3,7 @@ ghost use Rattle.std.specs.Prelude.{◌≡◌, ◌≤◌, ◌<◌, ◌+◌, ◌-
 ghost use Rattle.std.specs.Prelude.{is_none, is_some};
 ghost use Rattle.scm_lines.specs.Fitting.{fits_last, fits_word, fits_words, form_in};
 ghost use Rattle.scm_lines.specs.Fitting.{has_keyword, has_verb, step_in};
-ghost use Rattle.scm_lines.specs.Forms.{line_row, read_form, step_row};
+ghost use Rattle.scm_lines.specs.Forms.{line_row, read_form, verb_row};
 ghost use Rattle.scm_lines.specs.Keywords.{privilege_of};
 ghost use Rattle.scm_lines.specs.Versions.{read_in};
 ghost use Rattle.scm_lines.specs.Words.{all_printable, no_words, unprintable_at, words_of};
@@ -120,7 +120,7 @@ fn why_words(wanted: &[Wanted], last: Last, bytes: &[u8]) -> Option<Misfit>
 
 /// Returns why the words behind a verb are not of its form; `None` if they are.
 fn why_step(verb: Verb, bytes: &[u8]) -> Option<Misfit>
-    ensures exact { is_some result ≡ is_none (read_form (step_row verb).1 (words_of bytes.now)) }
+    ensures exact { is_some result ≡ is_none (read_form (verb_row verb).1 (words_of bytes.now)) }
     ensures within { IfSome result (λ m. m.left ≤ length bytes.now) }
 {
     use Wanted::{Bytes, Name, Number, Type};

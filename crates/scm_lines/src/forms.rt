@@ -9,8 +9,8 @@ ghost use Rattle.std.specs.Option.{option_map};
 ghost use Rattle.scm_lines.specs.Fault.{Reads};
 ghost use Rattle.scm_lines.specs.Words.{word_in, words_of};
 ghost use Rattle.scm_lines.specs.Keywords.{privilege_of};
-ghost use Rattle.scm_lines.specs.Forms.{line_row, name, number, read_form, sockets, step_row};
-ghost use Rattle.scm_lines.specs.Forms.{two, value_in, value_of};
+ghost use Rattle.scm_lines.specs.Forms.{line_row, name, number, read_form, sockets, verb_row};
+ghost use Rattle.scm_lines.specs.Forms.{two, value_in, word_value};
 ghost use Rattle.scm_lines.specs.Meaning.{form_of, step_of, step_takes_memory, takes_memory};
 ghost use Rattle.scm_lines.specs.declared.fault.LineFault.TheVariants as fault;
 ghost use Rattle.scm_lines.specs.declared.keywords.Keyword.TheVariants as keyword;
@@ -67,7 +67,7 @@ fn privilege(bytes: &[u8]) -> Option<bool>
 /// Reads `P dup N`.
 #[inline(always)]
 pub fn dup(rest: &[u8]) -> Option<Fd>
-    ensures { option_map step.Dup result ≡ read_form (step_row verb.Dup).1 (words_of rest.now) }
+    ensures { option_map step.Dup result ≡ read_form (verb_row verb.Dup).1 (words_of rest.now) }
 {
     let (fd, rest) = number_in(rest)?;
     is_end(rest).then_some(Fd(fd))
@@ -77,7 +77,7 @@ pub fn dup(rest: &[u8]) -> Option<Fd>
 #[inline(always)]
 pub fn dup2(rest: &[u8]) -> Option<(Fd, Fd)>
     ensures { option_map (λ found. step.Dup2 found.0 found.1) result
-        ≡ read_form (step_row verb.Dup2).1 (words_of rest.now) }
+        ≡ read_form (verb_row verb.Dup2).1 (words_of rest.now) }
 {
     let (from, rest) = number_in(rest)?;
     let (to, rest) = number_in(rest)?;
@@ -87,7 +87,7 @@ pub fn dup2(rest: &[u8]) -> Option<(Fd, Fd)>
 /// Reads `P close N`.
 #[inline(always)]
 pub fn close(rest: &[u8]) -> Option<Fd>
-    ensures { option_map step.Close result ≡ read_form (step_row verb.Close).1 (words_of rest.now) }
+    ensures { option_map step.Close result ≡ read_form (verb_row verb.Close).1 (words_of rest.now) }
 {
     let (fd, rest) = number_in(rest)?;
     is_end(rest).then_some(Fd(fd))
@@ -96,7 +96,7 @@ pub fn close(rest: &[u8]) -> Option<Fd>
 /// Reads `P pair TYPE`.
 #[inline(always)]
 pub fn pair(rest: &[u8]) -> Option<SockType>
-    ensures { option_map step.Pair result ≡ read_form (step_row verb.Pair).1 (words_of rest.now) }
+    ensures { option_map step.Pair result ≡ read_form (verb_row verb.Pair).1 (words_of rest.now) }
 {
     let (sockets, rest) = socket_type(rest)?;
     is_end(rest).then_some(sockets)
@@ -106,7 +106,7 @@ pub fn pair(rest: &[u8]) -> Option<SockType>
 #[inline(always)]
 pub fn socket(rest: &[u8]) -> Option<SockType>
     ensures { option_map step.Socket result
-        ≡ read_form (step_row verb.Socket).1 (words_of rest.now) }
+        ≡ read_form (verb_row verb.Socket).1 (words_of rest.now) }
 {
     let (sockets, rest) = socket_type(rest)?;
     is_end(rest).then_some(sockets)
@@ -116,7 +116,7 @@ pub fn socket(rest: &[u8]) -> Option<SockType>
 #[inline(always)]
 pub fn bind(rest: &[u8]) -> Option<(Fd, &[u8])>
     ensures { option_map (λ found. step.Bind found.0 found.1.now) result
-        ≡ read_form (step_row verb.Bind).1 (words_of rest.now) }
+        ≡ read_form (verb_row verb.Bind).1 (words_of rest.now) }
 {
     let (on, rest) = number_in(rest)?;
     let (name, rest) = name_in(rest)?;
@@ -127,7 +127,7 @@ pub fn bind(rest: &[u8]) -> Option<(Fd, &[u8])>
 #[inline(always)]
 pub fn listen(rest: &[u8]) -> Option<(Fd, u32)>
     ensures { option_map (λ found. step.Listen found.0 found.1) result
-        ≡ read_form (step_row verb.Listen).1 (words_of rest.now) }
+        ≡ read_form (verb_row verb.Listen).1 (words_of rest.now) }
 {
     let (on, rest) = number_in(rest)?;
     let (backlog, rest) = number_in(rest)?;
@@ -138,7 +138,7 @@ pub fn listen(rest: &[u8]) -> Option<(Fd, u32)>
 #[inline(always)]
 pub fn connect(rest: &[u8]) -> Option<(Fd, &[u8])>
     ensures { option_map (λ found. step.Connect found.0 found.1.now) result
-        ≡ read_form (step_row verb.Connect).1 (words_of rest.now) }
+        ≡ read_form (verb_row verb.Connect).1 (words_of rest.now) }
 {
     let (on, rest) = number_in(rest)?;
     let (name, rest) = name_in(rest)?;
@@ -149,7 +149,7 @@ pub fn connect(rest: &[u8]) -> Option<(Fd, &[u8])>
 #[inline(always)]
 pub fn accept(rest: &[u8]) -> Option<Fd>
     ensures { option_map step.Accept result
-        ≡ read_form (step_row verb.Accept).1 (words_of rest.now) }
+        ≡ read_form (verb_row verb.Accept).1 (words_of rest.now) }
 {
     let (fd, rest) = number_in(rest)?;
     is_end(rest).then_some(Fd(fd))
@@ -158,10 +158,10 @@ pub fn accept(rest: &[u8]) -> Option<Fd>
 /// Reads `P send N BYTES ITEMS..`.
 #[inline(always)]
 pub fn send(alloc: Global, rest: &[u8]) -> Result<(Fd, Bytes, Descriptors), LineFault>
-    ensures ok { IfOk result (λ found. read_form (step_row verb.Send).1 (words_of rest.now)
+    ensures ok { IfOk result (λ found. read_form (verb_row verb.Send).1 (words_of rest.now)
         ≡ Some (step.Send found.0 found.1 found.2.items)) }
     ensures err { IfErr result (λ f. f ≡ fault.Unreadable
-        → read_form (step_row verb.Send).1 (words_of rest.now) ≡ None) }
+        → read_form (verb_row verb.Send).1 (words_of rest.now) ≡ None) }
 {
     let (on, rest) = number_in(rest).ok_or(LineFault::Unreadable)?;
     let (word, rest) = first_word(rest).ok_or(LineFault::Unreadable)?;
@@ -174,7 +174,7 @@ pub fn send(alloc: Global, rest: &[u8]) -> Result<(Fd, Bytes, Descriptors), Line
 #[inline(always)]
 pub fn recv(rest: &[u8]) -> Option<(Fd, u32, u32)>
     ensures { option_map (λ found. step.Recv found.0 found.1 found.2) result
-        ≡ read_form (step_row verb.Recv).1 (words_of rest.now) }
+        ≡ read_form (verb_row verb.Recv).1 (words_of rest.now) }
 {
     let (on, rest) = number_in(rest)?;
     let (max_bytes, rest) = number_in(rest)?;
@@ -186,7 +186,7 @@ pub fn recv(rest: &[u8]) -> Option<(Fd, u32, u32)>
 #[inline(always)]
 pub fn peek(rest: &[u8]) -> Option<(Fd, u32, u32)>
     ensures { option_map (λ found. step.Peek found.0 found.1 found.2) result
-        ≡ read_form (step_row verb.Peek).1 (words_of rest.now) }
+        ≡ read_form (verb_row verb.Peek).1 (words_of rest.now) }
 {
     let (on, rest) = number_in(rest)?;
     let (max_bytes, rest) = number_in(rest)?;
@@ -197,7 +197,7 @@ pub fn peek(rest: &[u8]) -> Option<(Fd, u32, u32)>
 /// Reads `P limit N`.
 #[inline(always)]
 pub fn limit(rest: &[u8]) -> Option<u32>
-    ensures { option_map step.Limit result ≡ read_form (step_row verb.Limit).1 (words_of rest.now) }
+    ensures { option_map step.Limit result ≡ read_form (verb_row verb.Limit).1 (words_of rest.now) }
 {
     let (nofile, rest) = number_in(rest)?;
     is_end(rest).then_some(nofile)
@@ -207,7 +207,7 @@ pub fn limit(rest: &[u8]) -> Option<u32>
 
 /// Reads the step `bind`, and copies its name.
 fn bind_step(alloc: Global, rest: &[u8]) -> Result<Step, LineFault>
-    ensures { Reads (read_form (step_row verb.Bind).1 (words_of rest.now)) result }
+    ensures { Reads (read_form (verb_row verb.Bind).1 (words_of rest.now)) result }
 {
     let Some((on, name)) = bind(rest) else {
         return Err(LineFault::Unreadable);
@@ -218,7 +218,7 @@ fn bind_step(alloc: Global, rest: &[u8]) -> Result<Step, LineFault>
 
 /// Reads the step `connect`, and copies its name.
 fn connect_step(alloc: Global, rest: &[u8]) -> Result<Step, LineFault>
-    ensures { Reads (read_form (step_row verb.Connect).1 (words_of rest.now)) result }
+    ensures { Reads (read_form (verb_row verb.Connect).1 (words_of rest.now)) result }
 {
     let Some((on, name)) = connect(rest) else {
         return Err(LineFault::Unreadable);
@@ -229,7 +229,7 @@ fn connect_step(alloc: Global, rest: &[u8]) -> Result<Step, LineFault>
 
 /// Reads the step `send`.
 fn send_step(alloc: Global, rest: &[u8]) -> Result<Step, LineFault>
-    ensures { Reads (read_form (step_row verb.Send).1 (words_of rest.now)) result }
+    ensures { Reads (read_form (verb_row verb.Send).1 (words_of rest.now)) result }
 {
     let (on, bytes, attach) = send(alloc, rest)?;
     let attach = Items::of_small(attach);
@@ -238,7 +238,7 @@ fn send_step(alloc: Global, rest: &[u8]) -> Result<Step, LineFault>
 
 /// Reads the step `recv`.
 fn recv_step(rest: &[u8]) -> Option<Step>
-    ensures { result ≡ read_form (step_row verb.Recv).1 (words_of rest.now) }
+    ensures { result ≡ read_form (verb_row verb.Recv).1 (words_of rest.now) }
 {
     let (on, max_bytes, max_fds) = recv(rest)?;
     Some(Step::Recv {
@@ -250,7 +250,7 @@ fn recv_step(rest: &[u8]) -> Option<Step>
 
 /// Reads the step `peek`.
 fn peek_step(rest: &[u8]) -> Option<Step>
-    ensures { result ≡ read_form (step_row verb.Peek).1 (words_of rest.now) }
+    ensures { result ≡ read_form (verb_row verb.Peek).1 (words_of rest.now) }
 {
     let (on, max_bytes, max_fds) = peek(rest)?;
     Some(Step::Peek {
@@ -262,7 +262,7 @@ fn peek_step(rest: &[u8]) -> Option<Step>
 
 /// Reads the step of this verb.
 fn step(alloc: Global, verb: Verb, rest: &[u8]) -> Result<Step, LineFault>
-    ensures read { Reads (read_form (step_row verb).1 (words_of rest.now)) result }
+    ensures read { Reads (read_form (verb_row verb).1 (words_of rest.now)) result }
     ensures memory { IfErr result
         (λ f. f ≡ fault.Memory → takes_memory (Some verb) ≡ true) }
 {

@@ -1,7 +1,7 @@
 //! The words that say which form a line has.
 ghost use Rattle.std.specs.Prelude.{◌≡◌, ◌++◌, IfSome, map};
 ghost use Rattle.scm_lines.specs.Keywords.{meaning, type_of};
-ghost use Rattle.scm_lines.specs.Forms.{keywords, line_row, named, step_row, verbs};
+ghost use Rattle.scm_lines.specs.Forms.{keywords, line_row, row_named, verb_row, verbs};
 
 use af_base::events::SockType;
 
@@ -96,7 +96,7 @@ fn meaning<V: Copy>(mut table: &[(&[u8], V)], word: &[u8]) -> Option<V>
 
 /// Returns the keyword of a line's first word, if it is one.
 pub fn keyword_named(word: &[u8]) -> Option<Keyword>
-    ensures { result ≡ named line_row keywords word.now }
+    ensures { result ≡ row_named line_row keywords word.now }
 {
     meaning(&KEYWORDS, word)
 }
@@ -119,7 +119,7 @@ pub fn event_at(bytes: &[u8]) -> Option<(Keyword, &[u8])>
 /// Returns the verb that the word after a process's number names, if it is one. The verbs that
 /// scripts use most are tried first.
 pub fn verb_named(word: &[u8]) -> Option<Verb>
-    ensures { result ≡ named step_row verbs word.now }
+    ensures { result ≡ row_named verb_row verbs word.now }
 {
     Some(match word {
         b"send" => Verb::Send,

@@ -4,7 +4,7 @@ ghost use Rattle.std.specs.Prelude.{Some, is_none, is_some, position};
 ghost use Rattle.scm_lines.specs.Attached.{attached_of};
 ghost use Rattle.scm_lines.specs.Fitting.{digits_reason, number_reason};
 ghost use Rattle.scm_lines.specs.Keywords.{type_of};
-ghost use Rattle.scm_lines.specs.Numbers.{is_digit, number_of};
+ghost use Rattle.scm_lines.specs.Numbers.{is_digit, word_number};
 ghost use Rattle.scm_lines.specs.Payload.{at_most, payload_of, unescape};
 ghost use Rattle.scm_lines.specs.declared.reason.Reason.TheVariants as reason;
 ghost use Rattle.scm_lines.specs.Words.{all_printable, unprintable_at, words_of};
@@ -103,7 +103,7 @@ pub fn number_misfit(word: &[u8]) -> Misfit
 
 /// Returns why a word is not read as a number; `None` if it is.
 pub fn why_number(word: &[u8]) -> Option<Misfit>
-    ensures exact { is_some result ≡ is_none (number_of word.now) }
+    ensures exact { is_some result ≡ is_none (word_number word.now) }
     ensures reason { IfSome result (λ m. m.reason ≡ number_reason word.now) }
     ensures within { IfSome result (λ m. m.left ≤ length word.now) }
 {

@@ -1,7 +1,7 @@
 //! Numbers in decimal digits.
 ghost use Rattle.std.specs.Prelude.{◌≡◌, Some, IfSome};
 ghost use Rattle.std.specs.Option.{option_map};
-ghost use Rattle.scm_lines.specs.Numbers.{number_of, number_in};
+ghost use Rattle.scm_lines.specs.Numbers.{word_number, first_number};
 ghost use Rattle.scm_lines.specs.Words.{words_of};
 
 use crate::words::{ends_word, first_word, without_space};
@@ -14,7 +14,7 @@ const FEW_DIGITS: usize = 9;
 
 /// Reads the number of a word.
 pub fn number(word: &[u8]) -> Option<u32>
-    ensures { result ≡ number_of word.now }
+    ensures { result ≡ word_number word.now }
 {
     // Most numbers have one digit.
     if let [digit @ b'0'..=b'9'] = word {
@@ -37,7 +37,7 @@ pub fn number(word: &[u8]) -> Option<u32>
 #[inline(always)]
 pub fn number_in(bytes: &[u8]) -> Option<(u32, &[u8])>
     ensures { option_map (λ found. (found.0, words_of found.1.now)) result
-        ≡ number_in (words_of bytes.now) }
+        ≡ first_number (words_of bytes.now) }
 {
     // Most are one digit, behind one space or at the front.
     if let [digit @ b'0'..=b'9', rest @ ..] = without_space(bytes)
@@ -53,7 +53,7 @@ pub fn number_in(bytes: &[u8]) -> Option<(u32, &[u8])>
 #[inline(never)]
 fn any_number_in(bytes: &[u8]) -> Option<(u32, &[u8])>
     ensures { option_map (λ found. (found.0, words_of found.1.now)) result
-        ≡ number_in (words_of bytes.now) }
+        ≡ first_number (words_of bytes.now) }
 {
     if let Some(found) = short_number_in(bytes) {
         return Some(found);
@@ -67,7 +67,7 @@ fn any_number_in(bytes: &[u8]) -> Option<(u32, &[u8])>
 #[inline(always)]
 fn short_number_in(bytes: &[u8]) -> Option<(u32, &[u8])>
     ensures { IfSome result (λ found.
-        number_in (words_of bytes.now) ≡ Some (found.0, words_of found.1.now)) }
+        first_number (words_of bytes.now) ≡ Some (found.0, words_of found.1.now)) }
 {
     let start = without_space(bytes);
     let [first @ b'1'..=b'9', ..] = start else {

@@ -7,7 +7,7 @@ ghost use Rattle.std.specs.Option.{option_map};
 ghost use Rattle.af_base.specs.declared.events.Event.TheVariants as event;
 ghost use Rattle.scm_lines.specs.Fault.{Reads};
 ghost use Rattle.scm_lines.specs.Fitting.{has_verb};
-ghost use Rattle.scm_lines.specs.Forms.{line_row, read_form, step_row};
+ghost use Rattle.scm_lines.specs.Forms.{line_row, read_form, verb_row};
 ghost use Rattle.scm_lines.specs.Meaning.{line_takes_memory};
 ghost use Rattle.scm_lines.specs.Versions.{allowed_in, has_line, is_later, is_unknown, read_in};
 ghost use Rattle.scm_lines.specs.Versions.{version_after};
@@ -90,7 +90,7 @@ pub fn has_verb(version: Version, verb: Verb) -> bool
 pub fn verb_in(version: Version, bytes: &[u8]) -> Option<(Pid, Verb, &[u8])>
     ensures { IfSome result (λ found. read_in version bytes.now
         ≡ option_map (λ does. line.Event (event.Proc found.0 does))
-        (read_form (step_row found.1).1 (words_of found.2.now))) }
+        (read_form (verb_row found.1).1 (words_of found.2.now))) }
 {
     // A line that begins with no digit is a keyword's, as a rule.
     if bytes.len() > MAX_LINE || !matches!(bytes, [b'0'..=b'9', ..]) {

@@ -8,7 +8,7 @@ use Rattle.std.proofs.lemmas.List.Elements.{All-nil}
 use Rattle.std.proofs.lemmas.List.{take_at, take_all, map-append, length-map}
 use Rattle.scm_run.specs.Watched.{AppendsFront}
 use Rattle.scm_lines.specs.Versions.{read_in}
-use Rattle.scm_run.specs.Script.{FaultAt, LineText, NoFeed, Point, RanFirst, RanToEnd, RunText, StopsBy, Tells, Wrote, ended_by_feed, first_point, is_read_fault, RanAsRead}
+use Rattle.scm_run.specs.Script.{FaultAt, LineText, NoFeed, Point, RanFirst, RanToEnd, RunText, StopsBy, HasInput, Wrote, ended_by_feed, first_point, is_read_fault, RanAsRead}
 use Rattle.scm_run.specs.Gather.{WritesBeforeFault, WritesFront}
 use Rattle.scm_run.specs.Line.{LineDone, LineStops}
 use Rattle.scm_run.specs.Progress.{FaultIn, Halts, Ran, RanAll, RunProgress, Runs, TooLong, Waits, may_fit, nothing_read}
@@ -416,13 +416,13 @@ all_part taken before mid after old ran part =
 -- ---- what the reader tells
 
 -- The bytes that were read begin the input.
-pub told_input : (told left : Option (List ℕ)) (taken : List ℕ) → Consumes told left taken → (more : List ℕ) × Tells told (taken ++ more)
+pub told_input : (told left : Option (List ℕ)) (taken : List ℕ) → Consumes told left taken → (more : List ℕ) × HasInput told (taken ++ more)
 told_input None left taken p = ([], tt)
 told_input (Some xs) None taken p = absurd p
 told_input (Some xs) (Some ys) taken p = (ys, p)
 
 -- The bytes that were read to the end are the whole input.
-pub told_all : (told left : Option (List ℕ)) (taken : List ℕ) → Consumes told left taken → IsAtEnd left → Tells told taken
+pub told_all : (told left : Option (List ℕ)) (taken : List ℕ) → Consumes told left taken → IsAtEnd left → HasInput told taken
 told_all None left taken p q = tt
 told_all (Some xs) None taken p q = absurd p
 told_all (Some xs) (Some ys) taken p q = p ∙ ap (λ l. taken ++ l) q ∙ append-nil taken
@@ -430,7 +430,7 @@ told_all (Some xs) (Some ys) taken p q = p ∙ ap (λ l. taken ++ l) q ∙ appen
 -- ---- why a run stops
 
 -- Each reader tells some input.
-pub told_any : (told : Option (List ℕ)) → (input : List ℕ) × Tells told input
+pub told_any : (told : Option (List ℕ)) → (input : List ℕ) × HasInput told input
 told_any None = ([], tt)
 told_any (Some xs) = (xs, refl)
 
@@ -451,7 +451,7 @@ stops_in told left before after bytes fault.Write unread p h = let (more, t) = t
 stops_in told left before after bytes fault.Memory unread p h = let (more, t) = told_input told left bytes p in (bytes ++ more, t, h more)
 
 -- A fault at the end of the script is one of the script.
-stops_at : (told left before after : Option (List ℕ)) (bytes : List ℕ) (f : RunFault) → Tells told bytes → FaultAt bytes before after f → StopsBy told left before after f
+stops_at : (told left before after : Option (List ℕ)) (bytes : List ℕ) (f : RunFault) → HasInput told bytes → FaultAt bytes before after f → StopsBy told left before after f
 stops_at told left before after bytes (fault.Unreadable number) t h = (bytes, t, h)
 stops_at told left before after bytes fault.Read t h = absurd h
 stops_at told left before after bytes fault.Write t h = (bytes, t, h)
@@ -471,7 +471,7 @@ written_all taken before mid old ran none =
 
 -- The run was too long.
 pub stops_late : (told left before mid : Option (List ℕ)) (bytes : List ℕ) (old : RunProgress) → Consumes told left bytes → Ran bytes before mid old → old.gathered ≡ []
-    → (input : List ℕ) × (Tells told input × RanFirst input before mid)
+    → (input : List ℕ) × (HasInput told input × RanFirst input before mid)
 stops_late told left before mid bytes old p ran none =
     let (more, t) = told_input told left bytes p in
     let (text, run, wrote) = written_all bytes before mid old ran none in

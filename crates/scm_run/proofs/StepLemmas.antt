@@ -21,7 +21,7 @@ use Rattle.af_base.specs.Whole.{IsSound}
 use Rattle.af_steps.specs.Outcome.{Answers, Does, Refuses, RefusesStart, Starts, error_of, got_reply}
 use Rattle.af_steps.specs.declared.messages.Received.{Received}
 use Rattle.af_steps.proofs.FoldedReplies.{does-step, refuses-step}
-use Rattle.scm_lines.specs.Forms.{line_row, read_form, step_row}
+use Rattle.scm_lines.specs.Forms.{line_row, read_form, verb_row}
 use Rattle.scm_lines.specs.Versions.{allowed_in, has_line, is_unknown, read_in}
 use Rattle.scm_lines.specs.Words.{at_end, no_words, words_of}
 use Rattle.scm_lines.specs.declared.fault.LineFault.{LineFault}
@@ -34,7 +34,7 @@ use Rattle.scm_lines.specs.declared.version.Version.TheVariants as version
 use Rattle.scm_run.specs.Gather.{WritesFront}
 use Rattle.scm_run.specs.Line.{EventDone, LineDone, LineRead, LineStops, StepDone}
 use Rattle.scm_run.specs.Script.{Point}
-use Rattle.scm_run.specs.Text.{IsShort, reply_line, reply_of}
+use Rattle.scm_run.specs.Text.{IsShort, reply_line, outcome_reply}
 use Rattle.scm_run.specs.declared.fault.RunFault.TheVariants as fault
 use Rattle.scm_run.proofs.ShortReplies.{step-short}
 
@@ -42,17 +42,17 @@ use Rattle.scm_run.proofs.ShortReplies.{step-short}
 
 -- A call's answer, or its error, is the reply of the step.
 call_answers : (old new : Machine) (p : ℕ) (s : Step) {T : Type 0} (o : Result T Errno) (tells : T → Reply)
-    → IfOk o (λ t. Does old p s (tells t) new) → IfErr o (λ e. Refuses old p s e new) → Answers old p s (reply_of tells o) new
+    → IfOk o (λ t. Does old p s (tells t) new) → IfErr o (λ e. Refuses old p s e new) → Answers old p s (outcome_reply tells o) new
 call_answers old new p s (Ok t) tells done refused = does-step old p s new (tells t) done
 call_answers old new p s (Err e) tells done refused = refuses-step old p s new e refused
 
 -- A step that was read and done by its call, whose answer's line was appended.
 pub step_done : (k row : Verb) (old new : Machine) (p : ℕ) (rest before after : List ℕ) (s : Step) {T : Type 0} (o : Result T Errno) (tells : T → Reply)
-    → k ≡ row → Some s ≡ read_form (step_row row).1 (words_of rest)
+    → k ≡ row → Some s ≡ read_form (verb_row row).1 (words_of rest)
     → IfOk o (λ t. Does old p s (tells t) new) → IfErr o (λ e. Refuses old p s e new)
-    → after ≡ before ++ reply_line (reply_of tells o) → StepDone k old p rest before (Ok tt) after new
+    → after ≡ before ++ reply_line (outcome_reply tells o) → StepDone k old p rest before (Ok tt) after new
 step_done k row old new p rest before after s o tells is read done refused text =
-    (s, reply_of tells o, ap (λ v. read_form (step_row v).1 (words_of rest)) is ∙ sym read, call_answers old new p s o tells done refused, text)
+    (s, outcome_reply tells o, ap (λ v. read_form (verb_row v).1 (words_of rest)) is ∙ sym read, call_answers old new p s o tells done refused, text)
 
 -- ---- events besides steps
 
@@ -64,7 +64,7 @@ start_stays None answer after w e is = inr (ap reply.Refused (sym (some_same ENO
 -- A spawn's answer is the reply of the event.
 pub spawn_done : (old new : Machine) (uid nofile : ℕ) (privileged : Bool) (o : Result ℕ Errno)
     → IfOk o (λ pid. Starts old uid nofile privileged pid new) → IfErr o (λ e. RefusesStart old nofile e new)
-    → MachineStep old (event.Spawn uid nofile privileged) (reply_of reply.Pid o) new
+    → MachineStep old (event.Spawn uid nofile privileged) (outcome_reply reply.Pid o) new
 spawn_done old new uid nofile privileged (Ok pid) done refused =
     let started = accepted (spawn_refusal old.world nofile) false (reply.Pid old.world.next_pid) (spawned old.world uid nofile privileged) old.world new.world done.0 done.2 in
     (subst (λ (p : ℕ). SpawnStep old.world uid nofile privileged (reply.Pid p) new.world) (sym done.1) started, done.3)
@@ -74,7 +74,7 @@ spawn_done old new uid nofile privileged (Err e) done refused =
 
 -- The answer of a call of the collector is the reply of its event.
 pub call_done : (old new : Machine) (e : Event) {T : Type 0} (o : Result T Errno) (tells : T → Reply)
-    → IfOk o (λ t. MachineStep old e (tells t) new) → IfErr o (λ error. MachineStep old e (reply.Refused error) new) → MachineStep old e (reply_of tells o) new
+    → IfOk o (λ t. MachineStep old e (tells t) new) → IfErr o (λ error. MachineStep old e (reply.Refused error) new) → MachineStep old e (outcome_reply tells o) new
 call_done old new e (Ok t) tells done refused = done
 call_done old new e (Err error) tells done refused = refused
 
@@ -97,7 +97,7 @@ line_by_event v w old new bytes before after (does, answer, read, steps, text) l
 
 -- A line that is read by its verb comes to what its step does.
 pub line_by_step : (k : Verb) (v w : Version) (old new : Machine) (p : ℕ) (bytes rest before after : List ℕ)
-    → read_in v bytes ≡ option_map (λ does. line.Event (event.Proc p does)) (read_form (step_row k).1 (words_of rest))
+    → read_in v bytes ≡ option_map (λ does. line.Event (event.Proc p does)) (read_form (verb_row k).1 (words_of rest))
     → StepDone k old p rest before (Ok tt) after new → w ≡ (if is_unknown v then version.First else v)
     → LineRead (record { machine = old; version = v }) bytes before (Ok 1) after (record { machine = new; version = w })
 line_by_step k v w old new p bytes rest before after is (does, answer, read, steps, text) later =
@@ -105,7 +105,7 @@ line_by_step k v w old new p bytes rest before after is (does, answer, read, ste
 
 -- One whose step cannot be read cannot be read.
 pub line_by_none : (k : Verb) (v : Version) (old new : Machine) (p : ℕ) (bytes rest before after : List ℕ) (f : LineFault)
-    → read_in v bytes ≡ option_map (λ does. line.Event (event.Proc p does)) (read_form (step_row k).1 (words_of rest))
+    → read_in v bytes ≡ option_map (λ does. line.Event (event.Proc p does)) (read_form (verb_row k).1 (words_of rest))
     → StepDone k old p rest before (Err f) after new
     → LineRead (record { machine = old; version = v }) bytes before (Err f) after (record { machine = new; version = v })
 line_by_none k v old new p bytes rest before after unread.Unreadable is (none, same) = (is ∙ ap (option_map (λ does. line.Event (event.Proc p does))) none, same)

@@ -6,7 +6,7 @@ use Rattle.af_base.specs.declared.events.Event.{Event}
 use Rattle.af_base.specs.declared.events.Event.TheVariants as event
 use Rattle.af_base.specs.declared.events.Reply.{Reply}
 use Rattle.af_base.specs.declared.events.Step.{Step}
-use Rattle.scm_lines.specs.Forms.{read_form, step_row}
+use Rattle.scm_lines.specs.Forms.{read_form, verb_row}
 use Rattle.scm_lines.specs.Versions.{read_in}
 use Rattle.scm_lines.specs.Words.{words_of}
 use Rattle.scm_lines.specs.declared.fault.LineFault.{LineFault}
@@ -45,10 +45,10 @@ LineStops v bytes number gathered left before after fault.Memory = WritesFront g
 abbrev pub StepDone : Verb → Machine → ℕ → List ℕ → List ℕ → Result (Unit {0}) LineFault → List ℕ
     → Machine → Type 0
 StepDone k old p rest before (Ok _) after new =
-    (does : Step) × (answer : Reply) × (read_form (step_row k).1 (words_of rest) ≡ Some does)
+    (does : Step) × (answer : Reply) × (read_form (verb_row k).1 (words_of rest) ≡ Some does)
     × MachineStep old (event.Proc p does) answer new × (after ≡ before ++ reply_line answer)
 StepDone k old p rest before (Err unread.Unreadable) after new =
-    (read_form (step_row k).1 (words_of rest) ≡ None) × (after ≡ before)
+    (read_form (verb_row k).1 (words_of rest) ≡ None) × (after ≡ before)
 StepDone k old p rest before (Err unread.Memory) after new = after ≡ before
 
 -- The outcome of the bytes of a line that is read as an event's, whatever lines came before. The

@@ -27,12 +27,12 @@ use Rattle.scm_run.specs.declared.fault.RunFault.TheVariants as fault
 -- Silence and a version do nothing; an event is one step of the machine, and its text is the
 -- reply's line; a report changes nothing, and its text speaks of the world at that point, or is the
 -- line of ENOMEM.
-abbrev pub Does : Machine → Line → ℕ → List ℕ → Machine → Type 0
-Does old line.Silence events text new = (events ≡ 0) × (text ≡ []) × (new ≡ old)
-Does old line.Version2 events text new = (events ≡ 0) × (text ≡ []) × (new ≡ old)
-Does old (line.Event event) events text new = (events ≡ 1)
+abbrev pub LineEffect : Machine → Line → ℕ → List ℕ → Machine → Type 0
+LineEffect old line.Silence events text new = (events ≡ 0) × (text ≡ []) × (new ≡ old)
+LineEffect old line.Version2 events text new = (events ≡ 0) × (text ≡ []) × (new ≡ old)
+LineEffect old (line.Event event) events text new = (events ≡ 1)
     × ((reply : Reply) × Step old event reply new × (text ≡ reply_line reply))
-Does old (line.Report report) events text new = (events ≡ 0)
+LineEffect old (line.Report report) events text new = (events ≡ 0)
     × (IsReportText old.world report text ⊎ (text ≡ reply_line (reply.Refused ENOMEM)))
     × (new ≡ old)
 
@@ -54,7 +54,7 @@ first_point = record { machine = fresh; version = version.Unknown }
 pub record LineText (old : Point) (bytes : List ℕ) (events : ℕ) (text : List ℕ) (new : Point) : Type 0 where
   pub says : Line
   pub read : read_in old.version bytes ≡ Some says
-  pub does : Does old.machine says events text new.machine
+  pub does : LineEffect old.machine says events text new.machine
   pub version : new.version ≡ version_after old.version says
 
 -- These lines, one after another, can be read, lead from old to new, do this many events and have
@@ -84,14 +84,14 @@ pub record WroteBeginning (script : List (List ℕ)) (before after : Option (Lis
 -- ---- how a run ends
 
 -- The reader had this input to give, where it tells.
-abbrev pub Tells : Option (List ℕ) → List ℕ → Type 0
-Tells None input = ⊤
-Tells (Some bytes) input = bytes ≡ input
+abbrev pub HasInput : Option (List ℕ) → List ℕ → Type 0
+HasInput None input = ⊤
+HasInput (Some bytes) input = bytes ≡ input
 
 -- The reader was read to its end, every line of its input was run, and their text was written.
 pub record RanToEnd (told left before after : Option (List ℕ)) (events : ℕ) : Type 0 where
   pub input : List ℕ
-  pub tells : Tells told input
+  pub tells : HasInput told input
   pub ended : IsAtEnd left
   pub all : Wrote (lines input) events before after
 
@@ -151,7 +151,7 @@ FaultAt input before after fault.Memory = RanFirst input before after
 -- The meaning of a fault for the reader's input and the written text.
 abbrev pub StopsBy : Option (List ℕ) → Option (List ℕ) → Option (List ℕ) → Option (List ℕ) → RunFault → Type 0
 StopsBy told left before after fault.Read = RanAsRead told left before after
-StopsBy told left before after other = (input : List ℕ) × Tells told input × FaultAt input before after other
+StopsBy told left before after other = (input : List ℕ) × HasInput told input × FaultAt input before after other
 
 -- The fault is that writing failed.
 abbrev pub is_write_fault : {A : Type 0} → Result A RunFault → Bool

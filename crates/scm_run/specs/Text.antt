@@ -48,9 +48,9 @@ reply_text (reply.Done pass reclaimed) = codes "pass " ++ decimal pass ++ codes 
 reply_text (reply.Refused error) = name_of error
 
 -- The reply that tells what a call answered, or its error.
-abbrev pub reply_of : {A : Type 0} → (A → Reply) → Result A Errno → Reply
-reply_of tells (Ok answer) = tells answer
-reply_of tells (Err error) = reply.Refused error
+abbrev pub outcome_reply : {A : Type 0} → (A → Reply) → Result A Errno → Reply
+outcome_reply tells (Ok answer) = tells answer
+outcome_reply tells (Err error) = reply.Refused error
 
 -- The line of a reply ends in a line feed.
 unfoldable pub reply_line : Reply → List ℕ

@@ -5,7 +5,7 @@ ghost use Rattle.af_base.specs.declared.errno.Errno.TheVariants.{ENOMEM};
 ghost use Rattle.af_base.specs.declared.events.Reply.TheVariants as reply;
 ghost use Rattle.scm_run.specs.Report.{IsReportText};
 ghost use Rattle.scm_run.specs.Text.{reply_line};
-ghost use Rattle.scm_run.specs.Script.{Does, is_read_fault, is_write_fault, point_of};
+ghost use Rattle.scm_run.specs.Script.{LineEffect, is_read_fault, is_write_fault, point_of};
 ghost use Rattle.scm_run.specs.Line.{LineDone, LineRead, LineStops};
 ghost use Rattle.scm_run.specs.declared.text.TheConstants.{MAX_REPLY_LINE};
 
@@ -53,7 +53,7 @@ fn answer_report(alloc: Global, engine: &Engine, report: Report, text: &mut Vec<
 pub fn answer(alloc: Global, engine: &mut Engine, says: Line, text: &mut Vec<u8>) -> u64
     requires { vec_len text.old + MAX_REPLY_LINE ≤ vec_capacity text.old }
     ensures does { (line : List ℕ) × (text.new.items ≡ text.old.items ++ line)
-        × Does engine.old says result line engine.new }
+        × LineEffect engine.old says result line engine.new }
     ensures few { result ≤ 1 }
 {
     match says {

@@ -5,7 +5,7 @@
 ghost use Rattle.std.specs.Prelude.{◌≡◌, ◌≤◌, ◌+◌, ◌++◌, IfOk, vec_capacity, vec_len};
 ghost use Rattle.af_base.specs.declared.events.Reply.TheVariants as reply;
 ghost use Rattle.af_steps.specs.Outcome.{finished_reply, got_reply, progress_reply};
-ghost use Rattle.scm_run.specs.Text.{IsShort, reply_line, reply_of};
+ghost use Rattle.scm_run.specs.Text.{IsShort, reply_line, outcome_reply};
 ghost use Rattle.scm_run.specs.declared.text.TheConstants.{MAX_REPLY_LINE};
 
 use crate::text::push_reply;
@@ -27,7 +27,7 @@ fn push_refusal(text: &mut Vec<u8>, error: Errno)
 #[inline(always)]
 pub fn push_fd(text: &mut Vec<u8>, outcome: Result<Fd, Errno>)
     requires { vec_len text.old + MAX_REPLY_LINE ≤ vec_capacity text.old }
-    ensures { text.new.items ≡ text.old.items ++ reply_line (reply_of reply.Fd outcome) }
+    ensures { text.new.items ≡ text.old.items ++ reply_line (outcome_reply reply.Fd outcome) }
 {
     match outcome {
         Ok(fd) => push_reply(text, &Reply::Fd(fd)),
@@ -40,7 +40,7 @@ pub fn push_fd(text: &mut Vec<u8>, outcome: Result<Fd, Errno>)
 pub fn push_fds(text: &mut Vec<u8>, outcome: Result<(Fd, Fd), Errno>)
     requires { vec_len text.old + MAX_REPLY_LINE ≤ vec_capacity text.old }
     ensures { text.new.items
-        ≡ text.old.items ++ reply_line (reply_of (λ fds. reply.Fds fds.0 fds.1) outcome) }
+        ≡ text.old.items ++ reply_line (outcome_reply (λ fds. reply.Fds fds.0 fds.1) outcome) }
 {
     match outcome {
         Ok((first, second)) => push_reply(text, &Reply::Fds(first, second)),
@@ -52,7 +52,7 @@ pub fn push_fds(text: &mut Vec<u8>, outcome: Result<(Fd, Fd), Errno>)
 #[inline(always)]
 pub fn push_pid(text: &mut Vec<u8>, outcome: Result<Pid, Errno>)
     requires { vec_len text.old + MAX_REPLY_LINE ≤ vec_capacity text.old }
-    ensures { text.new.items ≡ text.old.items ++ reply_line (reply_of reply.Pid outcome) }
+    ensures { text.new.items ≡ text.old.items ++ reply_line (outcome_reply reply.Pid outcome) }
 {
     match outcome {
         Ok(pid) => push_reply(text, &Reply::Pid(pid)),
@@ -64,7 +64,8 @@ pub fn push_pid(text: &mut Vec<u8>, outcome: Result<Pid, Errno>)
 #[inline(always)]
 pub fn push_done(text: &mut Vec<u8>, outcome: Result<(), Errno>)
     requires { vec_len text.old + MAX_REPLY_LINE ≤ vec_capacity text.old }
-    ensures { text.new.items ≡ text.old.items ++ reply_line (reply_of (λ _. reply.Ok) outcome) }
+    ensures { text.new.items
+        ≡ text.old.items ++ reply_line (outcome_reply (λ _. reply.Ok) outcome) }
 {
     match outcome {
         Ok(()) => push_reply(text, &Reply::Ok),
@@ -76,7 +77,7 @@ pub fn push_done(text: &mut Vec<u8>, outcome: Result<(), Errno>)
 #[inline(always)]
 pub fn push_sent(text: &mut Vec<u8>, outcome: Result<u32, Errno>)
     requires { vec_len text.old + MAX_REPLY_LINE ≤ vec_capacity text.old }
-    ensures { text.new.items ≡ text.old.items ++ reply_line (reply_of reply.Sent outcome) }
+    ensures { text.new.items ≡ text.old.items ++ reply_line (outcome_reply reply.Sent outcome) }
 {
     match outcome {
         Ok(count) => push_reply(text, &Reply::Sent(count)),
@@ -89,7 +90,7 @@ pub fn push_sent(text: &mut Vec<u8>, outcome: Result<u32, Errno>)
 pub fn push_received(text: &mut Vec<u8>, outcome: Result<Received, Errno>)
     requires room { vec_len text.old + MAX_REPLY_LINE ≤ vec_capacity text.old }
     requires short { IfOk outcome (λ received. IsShort (got_reply received)) }
-    ensures { text.new.items ≡ text.old.items ++ reply_line (reply_of got_reply outcome) }
+    ensures { text.new.items ≡ text.old.items ++ reply_line (outcome_reply got_reply outcome) }
 {
     match outcome {
         Ok(received) => push_reply(text, &received.into()),
@@ -101,7 +102,7 @@ pub fn push_received(text: &mut Vec<u8>, outcome: Result<Received, Errno>)
 #[inline(always)]
 pub fn push_started(text: &mut Vec<u8>, outcome: Result<u64, Errno>)
     requires { vec_len text.old + MAX_REPLY_LINE ≤ vec_capacity text.old }
-    ensures { text.new.items ≡ text.old.items ++ reply_line (reply_of reply.Started outcome) }
+    ensures { text.new.items ≡ text.old.items ++ reply_line (outcome_reply reply.Started outcome) }
 {
     match outcome {
         Ok(pass) => push_reply(text, &Reply::Started(pass)),
@@ -113,7 +114,7 @@ pub fn push_started(text: &mut Vec<u8>, outcome: Result<u64, Errno>)
 #[inline(always)]
 pub fn push_progress(text: &mut Vec<u8>, outcome: Result<Progress, Errno>)
     requires { vec_len text.old + MAX_REPLY_LINE ≤ vec_capacity text.old }
-    ensures { text.new.items ≡ text.old.items ++ reply_line (reply_of progress_reply outcome) }
+    ensures { text.new.items ≡ text.old.items ++ reply_line (outcome_reply progress_reply outcome) }
 {
     match outcome {
         Ok(Progress::Working) => push_reply(text, &Reply::Working),
@@ -126,7 +127,7 @@ pub fn push_progress(text: &mut Vec<u8>, outcome: Result<Progress, Errno>)
 #[inline(always)]
 pub fn push_finished(text: &mut Vec<u8>, outcome: Result<Finished, Errno>)
     requires { vec_len text.old + MAX_REPLY_LINE ≤ vec_capacity text.old }
-    ensures { text.new.items ≡ text.old.items ++ reply_line (reply_of finished_reply outcome) }
+    ensures { text.new.items ≡ text.old.items ++ reply_line (outcome_reply finished_reply outcome) }
 {
     match outcome {
         Ok(Finished { pass, reclaimed }) => push_reply(text, &Reply::Done { pass, reclaimed }),
