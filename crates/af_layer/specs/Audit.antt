@@ -14,7 +14,7 @@ nobody = record { number = 0; list = [] }
 abbrev pub number_at : List SeatView → ℕ → ℕ
 number_at seats i = (slice_index_or seats i nobody).number
 
--- The events done from it, with their replies.
+-- The events done from the seat at position i, with their replies.
 abbrev pub list_at : List SeatView → ℕ → List Pair
 list_at seats i = (slice_index_or seats i nobody).list
 
@@ -23,7 +23,7 @@ abbrev pub IsKnown : ℕ → List SeatView → ℕ → Type 0
 IsKnown n seats i = (is_seat n (number_at seats i) ≡ true)
     × ((j : ℕ) → j < i → number_at seats j ≢ number_at seats i)
 
--- So it is with all seats.
+-- Each seat of the list is known.
 abbrev pub NoStranger : ℕ → List SeatView → Type 0
 NoStranger n seats = (i : ℕ) → i < length seats → IsKnown n seats i
 

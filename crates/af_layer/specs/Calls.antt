@@ -15,11 +15,11 @@ is_seat seats k = nat_le 1 k && nat_le k seats
 
 -- Why a call does nothing, but for out of memory, in this order: there is no such seat, or the log
 -- is full.
-abbrev pub refusal : BookView → ℕ → Option CallError
-refusal b k = if is_seat b.seats k
+abbrev pub call_refusal : BookView → ℕ → Option CallError
+call_refusal b k = if is_seat b.seats k
     then (if nat_le MAX_LOG (length b.log) then Some fault.LogFull else None) else Some fault.NoSeat
 
--- A refusal is what is answered; where there is none, only memory may be refused.
+-- A refusal is what the call answers; where there is none, it fails only for lack of memory.
 abbrev pub RefusedBy : {R : Type 0} → Option CallError → Result R CallError → Type 0
 RefusedBy (Some e) r = r ≡ Err e
 RefusedBy None r = IfErr r (λ e. e ≡ fault.NoRoom)

@@ -18,7 +18,7 @@ pub record Entry : Type 0 where
 abbrev pub Pair : Type 0
 Pair = Event × Reply
 
--- Those of an entry.
+-- The event and the reply of an entry.
 abbrev pub pair_of : Entry → Pair
 pair_of e = (e.event, e.reply)
 

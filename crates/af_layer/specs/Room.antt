@@ -20,13 +20,13 @@ most_bytes (event.Proc p (step.Recv on max_bytes max_fds)) = min MAX_BYTES max_b
 most_bytes (event.Proc p (step.Peek on max_bytes max_fds)) = min MAX_BYTES max_bytes
 most_bytes other = 0
 
--- The most numbers that it has.
+-- The most descriptors that the answer to an event has: by the same limits.
 abbrev pub most_fds : Event → ℕ
 most_fds (event.Proc p (step.Recv on max_bytes max_fds)) = min SCM_MAX_FD max_fds
 most_fds (event.Proc p (step.Peek on max_bytes max_fds)) = min SCM_MAX_FD max_fds
 most_fds other = 0
 
--- There is room for the reply.
+-- The room is enough for the reply.
 abbrev pub HasRoomFor : ReplyRoomView → Reply → Type 0
 HasRoomFor room (reply.Got bytes fds trunc ctrunc) = (length bytes ≤ room.bytes) × (length fds ≤ room.fds)
 HasRoomFor room other = Unit {0}

@@ -4,7 +4,7 @@ use Rattle.af_base.specs.declared.events.Event.{Event}
 use Rattle.af_base.specs.declared.events.Reply.{Reply}
 use Rattle.af_layer.specs.Log.{Pair}
 
--- Its number, and the events that were done from it, in order, each with its reply.
+-- The number of a seat, and the events that were done from it, in order, each with its reply.
 pub record SeatView : Type 0 where
   pub number : ℕ
   pub list : List Pair

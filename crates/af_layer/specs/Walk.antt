@@ -28,7 +28,7 @@ abbrev pub Tracks : List Entry → List Pair → ℕ → ℕ → Option ℕ → 
 Tracks log list k i None = list ≢ of_seat k log
 Tracks log list k i (Some cursor) = (cursor ≤ length list) × Leaves log k list i (drop cursor list)
 
--- So it is with all cursors.
+-- The cursor of each number with a position tracks the list of the seat there.
 abbrev pub AllTrack : List Entry → List SeatView → List ℕ → ℕ → List (Option ℕ) → Type 0
 AllTrack log seats positions i cursors = (k : ℕ) → k < length positions
     → Tracks log (list_at seats (slice_index positions k)) k i (slice_index_or cursors k None)

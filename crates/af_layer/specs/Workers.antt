@@ -29,7 +29,7 @@ pub record Worked (old new : WorkerView) : Type 0 where
   pub number : new.seat.number ≡ old.seat.number
   pub list : Ends old.work old.seat.list new.fault new.seat.list
 
--- So it is with all workers.
+-- Each worker is as after its work.
 abbrev pub AllWorked : List WorkerView → List WorkerView → Type 0
 AllWorked old new = (i : ℕ) (other : WorkerView) → i < length old
     → Worked (slice_index_or old i other) (slice_index_or new i other)

@@ -3,7 +3,7 @@ ghost use Rattle.std.specs.Prelude.{◌≡◌, ◌<◌, ◌≤◌, ◌++◌, ◌
 ghost use Rattle.std.specs.Prelude.{vec_capacity, vec_len};
 ghost use Rattle.af_base.specs.Pass.{Machine};
 ghost use Rattle.af_base.specs.Run.{fresh};
-ghost use Rattle.af_layer.specs.Calls.{Calls, RefusedBy, refusal};
+ghost use Rattle.af_layer.specs.Calls.{Calls, RefusedBy, call_refusal};
 ghost use Rattle.af_layer.specs.Log.{IsLegalFrom};
 ghost use Rattle.af_layer.specs.Short.{event_of, reply_of};
 
@@ -156,7 +156,7 @@ impl Book {
     /// in the step itself is a reply, and is logged.
     pub fn call(&mut self, seat: u32, event: Event) -> Result<Reply, CallError>
         ensures done { IfOk result (λ reply. Calls self.old seat event reply self.new) }
-        ensures refused { RefusedBy (refusal self.old seat) result }
+        ensures refused { RefusedBy (call_refusal self.old seat) result }
         ensures same { OnErr result (self.new ≡ self.old) }
     {
         match ShortEvent::of(event) {
@@ -174,7 +174,7 @@ impl Book {
     ) -> Result<ShortReply, CallError>
         ensures done { IfOk result (λ reply.
             Calls self.old seat (event_of event.now) (reply_of reply) self.new) }
-        ensures refused { RefusedBy (refusal self.old seat) result }
+        ensures refused { RefusedBy (call_refusal self.old seat) result }
         ensures same { OnErr result (self.new ≡ self.old) }
     {
         room_for(self.seats, &mut self.log, seat)?;
@@ -187,7 +187,7 @@ impl Book {
     /// Does any event. Reserves room for a copy of the reply before.
     pub(crate) fn call_whole(&mut self, seat: u32, event: Event) -> Result<Reply, CallError>
         ensures done { IfOk result (λ reply. Calls self.old seat event reply self.new) }
-        ensures refused { RefusedBy (refusal self.old seat) result }
+        ensures refused { RefusedBy (call_refusal self.old seat) result }
         ensures same { OnErr result (self.new ≡ self.old) }
     {
         room_for(self.seats, &mut self.log, seat)?;
@@ -213,7 +213,7 @@ impl Book {
 fn room_for(seats: u32, log: &mut Vec<Entry>, seat: u32) -> Result<(), CallError>
     ensures entry { OnOk result (vec_len log.new < vec_capacity log.new) }
     ensures seat { OnOk result ((1 ≤ seat) × (seat ≤ seats)) }
-    ensures refused { (start machine : Machine) → RefusedBy (refusal (record {
+    ensures refused { (start machine : Machine) → RefusedBy (call_refusal (record {
       seats = seats;
       start = start;
       machine = machine;

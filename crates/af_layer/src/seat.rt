@@ -2,7 +2,7 @@
 ghost use Rattle.std.specs.Prelude.{◌≡◌, ◌<◌, ◌⊎◌, ◌++◌, ◌∷◌, [], IfErr, IfOk, IsSome, None, OnErr};
 ghost use Rattle.std.specs.Prelude.{OnOk, Some, vec_capacity, vec_len};
 ghost use Rattle.af_base.specs.declared.events.Reply.{Reply as Answer};
-ghost use Rattle.af_layer.specs.Calls.{Calls, refusal};
+ghost use Rattle.af_layer.specs.Calls.{Calls, call_refusal};
 ghost use Rattle.af_layer.specs.Seats.{grown};
 ghost use Rattle.af_layer.specs.Short.{event_of, reply_of};
 
@@ -95,9 +95,9 @@ impl Seat {
     pub fn call_in(&mut self, book: &mut Book, event: Event) -> Result<(), CallError>
         ensures done { OnOk result ((reply : Answer) × (self.new ≡ grown self.old event reply)
             × Calls book.old self.old.number event reply book.new) }
-        ensures open { OnOk result (refusal book.old self.old.number ≡ None) }
+        ensures open { OnOk result (call_refusal book.old self.old.number ≡ None) }
         ensures refused { IfErr result (λ e.
-            (e ≡ CallError.NoRoom) ⊎ (refusal book.old self.old.number ≡ Some e)) }
+            (e ≡ CallError.NoRoom) ⊎ (call_refusal book.old self.old.number ≡ Some e)) }
         ensures seat { OnErr result (self.new ≡ self.old) }
         ensures book { OnErr result (book.new ≡ book.old) }
     {
@@ -113,9 +113,9 @@ impl Seat {
         ensures done { OnOk result ((reply : Answer)
             × (self.new ≡ grown self.old (event_of event.now) reply)
             × Calls book.old self.old.number (event_of event.now) reply book.new) }
-        ensures open { OnOk result (refusal book.old self.old.number ≡ None) }
+        ensures open { OnOk result (call_refusal book.old self.old.number ≡ None) }
         ensures refused { IfErr result (λ e.
-            (e ≡ CallError.NoRoom) ⊎ (refusal book.old self.old.number ≡ Some e)) }
+            (e ≡ CallError.NoRoom) ⊎ (call_refusal book.old self.old.number ≡ Some e)) }
         ensures seat { OnErr result (self.new ≡ self.old) }
         ensures book { OnErr result (book.new ≡ book.old) }
     {
@@ -149,9 +149,9 @@ impl Seat {
     pub(crate) fn call_whole(&mut self, book: &mut Book, event: Event) -> Result<(), CallError>
         ensures done { OnOk result ((reply : Answer) × (self.new ≡ grown self.old event reply)
             × Calls book.old self.old.number event reply book.new) }
-        ensures open { OnOk result (refusal book.old self.old.number ≡ None) }
+        ensures open { OnOk result (call_refusal book.old self.old.number ≡ None) }
         ensures refused { IfErr result (λ e.
-            (e ≡ CallError.NoRoom) ⊎ (refusal book.old self.old.number ≡ Some e)) }
+            (e ≡ CallError.NoRoom) ⊎ (call_refusal book.old self.old.number ≡ Some e)) }
         ensures seat { OnErr result (self.new ≡ self.old) }
         ensures book { OnErr result (book.new ≡ book.old) }
     {
