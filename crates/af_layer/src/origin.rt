@@ -1,10 +1,10 @@
 //! Where the log of a layer begins.
-ghost use Rattle.std.specs.Prelude.{◌≡◌, ℕ, IfErr, IfOk, OnErr, OnOk};
+ghost use Rattle.std.specs.Prelude.{◌≡◌, ◌⊎◌, ℕ, IfErr, IfOk, OnErr, OnOk, Some};
 ghost use Rattle.af_base.specs.declared.events.Reply.{Reply as Answer};
 ghost use Rattle.af_base.specs.Pass.{Machine};
 ghost use Rattle.af_base.specs.Run.{fresh};
 ghost use Rattle.af_layer.specs.Audit.{AreEmptied, HasFault, IsWholeBook};
-ghost use Rattle.af_layer.specs.Calls.{Calls};
+ghost use Rattle.af_layer.specs.Calls.{Calls, RefusedBy, call_refusal};
 ghost use Rattle.af_layer.specs.Log.{HasLegalLog, IsReached};
 ghost use Rattle.af_layer.specs.Seats.{grown};
 ghost use Rattle.af_layer.specs.Short.{event_of, reply_of};
@@ -77,6 +77,7 @@ impl<O: Origin> BookFrom<O> {
     pub fn call_short(&mut self, seat: u32, event: &ShortEvent) -> Result<ShortReply, CallError>
         ensures done { IfOk result (λ reply.
             Calls self.old seat (event_of event.now) (reply_of reply) self.new) }
+        ensures refused { RefusedBy (call_refusal self.old seat) result }
         ensures same { OnErr result (self.new ≡ self.old) }
     {
         self.book.call_short(seat, event)
@@ -86,6 +87,8 @@ impl<O: Origin> BookFrom<O> {
     #[inline(never)]
     pub fn call_whole_from(&mut self, seat: &mut Seat, event: Event) -> Result<(), CallError>
         ensures done { OnOk result ((reply : Answer) × (seat.new ≡ grown seat.old event reply)) }
+        ensures refused { IfErr result (λ e.
+            (e ≡ CallError.NoRoom) ⊎ (call_refusal self.old seat.old.number ≡ Some e)) }
         ensures same { OnErr result (seat.new ≡ seat.old) }
     {
         seat.call_whole(&mut self.book, event)
@@ -95,6 +98,8 @@ impl<O: Origin> BookFrom<O> {
     #[inline(always)]
     pub fn call_from(&mut self, seat: &mut Seat, event: Event) -> Result<(), CallError>
         ensures done { OnOk result ((reply : Answer) × (seat.new ≡ grown seat.old event reply)) }
+        ensures refused { IfErr result (λ e.
+            (e ≡ CallError.NoRoom) ⊎ (call_refusal self.old seat.old.number ≡ Some e)) }
         ensures same { OnErr result (seat.new ≡ seat.old) }
     {
         seat.call_in(&mut self.book, event)

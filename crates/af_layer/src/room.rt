@@ -1,5 +1,5 @@
 //! Room that is reserved before the step that needs it: for a copy of its reply, or for entries.
-ghost use Rattle.std.specs.Prelude.{◌≡◌, IfOk};
+ghost use Rattle.std.specs.Prelude.{◌≡◌, ◌≤◌, ◌+◌, IfOk, OnOk, vec_capacity, vec_len};
 ghost use Rattle.af_layer.specs.Room.{HasRoomFor, most_bytes, most_fds};
 
 use af_base::events::{Event, Reply, Step};
@@ -113,7 +113,8 @@ pub fn reserve_touched<T: Drop, F: Fn() -> T>(
     blank: F,
 ) -> Result<(), AllocError>
     requires { F.IsAlwaysCallable blank }
-    ensures { list.new.items ≡ list.old.items }
+    ensures same { list.new.items ≡ list.old.items }
+    ensures room { OnOk result (vec_len list.old + more ≤ vec_capacity list.new) }
 {
     let len = list.len();
     if list.capacity() - len >= more {
