@@ -7,14 +7,14 @@
 # make test      the gate: proofs from nothing, all tests, wrong bodies: half an hour to an hour on four cores
 # make walks     random scripts and edited lines by the proved program, compared with an engine and a reader in Python
 # make stress    each request for memory refused in turn, and the largest worlds, by the proved program and tests
-# make bench     nanoseconds for each event, over named workloads, and calls a second from threads
+# make bench     nanoseconds for each event by the proved program, over named workloads, and calls a second from threads
 # make try-lib   build out/unproved/libjaywardrobe.a, for C and Rust, without proofs, in a minute or two
 # make lib       prove and build the library for C and Rust: out/libjaywardrobe.a, half an hour on four cores
 # make archive   put that library together once more, over what make lib proved
 # make embed     make lib, then compare its header with it, and run the programs in C and Rust that use it
 # make bench-c   nanoseconds for each call from C, over two of the workloads, by the library proved or not
 # make unixbox   build the supervisor that runs programs on the library, proved or not: out/unixbox
-# make clients   run test suites of others natively and under unixbox, and compare: half an hour
+# make clients   run test suites of others natively and under unixbox: half an hour; as root it installs their packages
 # make install   put the program and the library, as far as they are proved and built, below PREFIX (/usr/local)
 # make uninstall remove them from there
 # make clean     remove all that was built, and the work that checks keep
