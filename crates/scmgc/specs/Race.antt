@@ -10,8 +10,10 @@ use Rattle.std.specs.Fmt.{decimal}
 use Rattle.std.specs.FinMap as finmap
 use Rattle.af_base.specs.declared.events.Event.{Event}
 use Rattle.af_base.specs.declared.events.Event.TheVariants as event
+use Rattle.af_base.specs.declared.events.Reply.{Reply}
 use Rattle.af_base.specs.declared.events.Reply.TheVariants as reply
 use Rattle.af_base.specs.declared.events.Step.TheVariants as step
+use Rattle.af_base.specs.declared.limits.TheConstants.{MAX_BUDGET}
 use Rattle.af_layer.specs.Drive.{Collects, Script, Turned, WentOn, Work, events_of}
 use Rattle.af_layer.specs.Log.{BookView, Entry, IsLegal, Pair, of_seat}
 use Rattle.af_layer.specs.Seats.{SeatView}
@@ -64,6 +66,11 @@ exits_in (suc n) log = exits_in n log ++ exits_of (of_seat (suc n) log)
 abbrev pub EndsInPass : List Pair → List Pair → Type 0
 EndsInPass old new = (between : List Pair) × (pass : ℕ) × (reclaimed : ℕ)
     × (new ≡ old ++ between ++ (event.Pass, reply.Done pass reclaimed) ∷ [])
+
+-- A list was extended, and ended with a slice of the largest budget that left no pass to continue.
+abbrev pub EndsInSlice : List Pair → List Pair → Type 0
+EndsInSlice old new = (between : List Pair) × (answer : Reply)
+    × (new ≡ old ++ between ++ (event.Slice MAX_BUDGET, answer) ∷ []) × ¬ (answer ≡ reply.Working)
 
 -- A list was extended by these exits, and then ended with a whole pass that was done.
 abbrev pub Finishes : List Event → List Pair → List Pair → Type 0

@@ -1,5 +1,5 @@
 //! Runs, and how long they take.
-ghost use Rattle.std.specs.Prelude.{◌<◌, IfSome};
+ghost use Rattle.std.specs.Prelude.{◌≡◌, ◌<◌, ◌*◌, ◌%◌, IfNone, IfSome, min};
 
 use std::io::{self, Print};
 use std::time::{Clock, Instant};
@@ -31,6 +31,11 @@ impl Runs {
     /// and the next part of a long one. Returns `None` where that does not come out even.
     pub fn rounds(&self, events: usize) -> Option<Rounds>
         ensures some { IfSome result (λ rounds. 0 < rounds.events) }
+        ensures round { IfSome result (λ rounds. rounds.events ≡ min self.now.events events) }
+        ensures run { IfSome result (λ rounds. rounds.events * rounds.count ≡ self.now.events) }
+        ensures list { IfSome result (λ rounds. events % rounds.events ≡ 0) }
+        ensures none { let round = min self.now.events events in IfNone result
+            (0 < round → self.now.events % round ≡ 0 → ¬ (events % round ≡ 0)) }
     {
         let round = self.events.min(events);
         if round == 0 || self.events % round != 0 || events % round != 0 {

@@ -1,11 +1,11 @@
 //! The end of a race, when all workers are back: the children exit, and the collector is done.
-ghost use Rattle.std.specs.Prelude.{◌≡◌, ◌++◌, ℕ, IfErr, List, OnOk};
+ghost use Rattle.std.specs.Prelude.{◌≡◌, ◌↔◌, ◌++◌, ◌∷◌, [], ℕ, IfErr, IsTrue, List, OnOk};
 ghost use Rattle.af_base.specs.declared.events.Event.{Event as Asked};
 ghost use Rattle.af_base.specs.declared.events.Reply.{Reply as Answer};
 ghost use Rattle.af_layer.specs.Drive.{WentOn};
 ghost use Rattle.af_layer.specs.Log.{Pair};
 ghost use Rattle.af_layer.specs.Seats.{grown};
-ghost use Rattle.scmgc.specs.Race.{all_exits_of, child_of, exits_of};
+ghost use Rattle.scmgc.specs.Race.{EndsInSlice, all_exits_of, child_of, exits_of};
 
 use crate::race::fault::RaceFault;
 use af_base::events::{Event, Reply, Step};
@@ -70,14 +70,19 @@ pub fn end_children<R: Wait, O: Origin>(
 }
 
 /// Returns whether the last call from this seat continued a pass that is not done.
-fn is_working(seat: &Seat) -> bool {
+fn is_working(seat: &Seat) -> bool
+    ensures { (before : List Pair) (event : Asked) (reply : Answer)
+        → seat.now.list ≡ before ++ (event, reply) ∷ []
+        → IsTrue result ↔ (reply ≡ Answer.Working) }
+{
     match seat.list().last() {
         Some(last) => matches!(*last.reply(), Reply::Working),
         None => false,
     }
 }
 
-/// Continues the pass that the collector began, if one runs, until it is done.
+/// Continues the pass that the collector began, if one runs, until it is done. `Failed` also says
+/// that it is still not done after as many slices as each pass takes at most.
 pub fn end_pass<R: Wait, O: Origin>(
     rt: &R,
     layer: &Layer<O>,
@@ -85,14 +90,15 @@ pub fn end_pass<R: Wait, O: Origin>(
 ) -> Result<(), RaceFault>
     ensures number { main.new.number ≡ main.old.number }
     ensures list { (more : List Pair) × (main.new.list ≡ main.old.list ++ more) }
+    ensures ended { OnOk result (EndsInSlice main.old.list main.new.list) }
 {
     'slices: for _ in 0..MOST_SLICES {
         layer.call(rt, main, Event::Slice(MAX_BUDGET))?;
         if !is_working(main) {
-            break;
+            return Ok(());
         }
     }
-    Ok(())
+    Err(RaceFault::Failed)
 }
 
 /// Makes a whole pass, which has to be done.

@@ -1,15 +1,8 @@
-use Rattle.std.proofs.Common.{◌≡◌, ◌∙◌, ◌++◌, ◌∷◌, ◌+◌, ◌-◌, [], List, Err, IfErr, OnOk, Ok, Result, ap, arith, get_or, length, sym}
-use Rattle.std.proofs.Math.Seq.{get_or-append_seam}
-use Rattle.std.proofs.lemmas.List.{length-append}
+use Rattle.std.proofs.Common.{◌≡◌, ◌∙◌, ◌++◌, ◌∷◌, [], Err, IfErr, OnOk, Ok, Result, ap, sym}
 use Rattle.scmgc.specs.Race.Faults.{of_spawn}
 use Rattle.scmgc.specs.Race.{spawn_of}
+use Rattle.scmgc.proofs.race.LastPairs.{last_new}
 use Rattle.scmgc.proofs.race.start.start_process.Goals as goal
-
--- The last item of a list that grew by one is that one.
-last_new : {A : Type 0} (front : List A) (new last : A) (list : List A) → ((d : A) → last ≡ get_or list (length list - 1) d) → list ≡ front ++ new ∷ [] → last ≡ new
-last_new front new last list found grew =
-    let len : length front + 1 - 1 ≡ length front = omega arith in
-    found new ∙ ap (λ l. get_or l (length l - 1) new) grew ∙ ap (λ n. get_or (front ++ new ∷ []) n new) (ap (λ n. n - 1) (length-append front (new ∷ [])) ∙ len) ∙ get_or-append_seam front new [] new
 
 -- Maps the fact about a value along an implication.
 on_ok : {T E : Type 0} {P Q : Type 0} → (r : Result T E) → (P → Q) → OnOk r P → OnOk r Q
