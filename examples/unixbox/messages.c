@@ -178,12 +178,13 @@ static long take(struct call *call, size_t room) {
     return is_packet && tells_length ? result : (long)fitting;
 }
 
-/* Adds a control message, if there is room for it. Returns the length of all. */
+/* Adds a control message as far as there is room for it. Returns the length of all. */
 static size_t add_control(size_t used, int type, const void *data, size_t size) {
     struct cmsghdr *header = (struct cmsghdr *)(control + used);
-    bool fits = used + CMSG_LEN(size) <= message.header.msg_controllen;
-    message.header.msg_flags |= fits ? 0 : MSG_CTRUNC;
-    if (!fits) return used;
+    size_t left = message.header.msg_controllen - used;
+    message.header.msg_flags |= left < CMSG_LEN(size) ? MSG_CTRUNC : 0;
+    if (left < CMSG_LEN(0)) return used;
+    if (left < CMSG_LEN(size)) size = left - CMSG_LEN(0);
     memset(header, 0, CMSG_SPACE(size));
     *header = (struct cmsghdr){CMSG_LEN(size), SOL_SOCKET, type};
     memcpy(CMSG_DATA(header), data, size);

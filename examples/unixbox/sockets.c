@@ -143,12 +143,15 @@ long serve_option(struct call *call) {
     bool is_set = call->number == SYS_setsockopt;
     int option = (int)call->args[2];
     socklen_t room = 0;
+    if ((int)call->args[1] != SOL_SOCKET) return KERNEL_DOES_IT;
     if (is_set && (option == SO_SNDBUF || option == SO_SNDBUFFORCE)) return 0;
     if (option == SO_PEEK_OFF || option == PASS_PIDFD || option == PEER_PIDFD) return -ENOPROTOOPT;
-    if (option != SO_PEERCRED) return KERNEL_DOES_IT;
-    read_memory(call, &room, call->args[4], sizeof room);
-    if (room != sizeof owner) return -EINVAL;
-    return write_memory(call, call->args[3], &owner, sizeof owner) ? 0 : -EFAULT;
+    if (option != SO_PEERCRED || is_set) return KERNEL_DOES_IT;
+    if (!read_memory(call, &room, call->args[4], sizeof room)) return -EFAULT;
+    if (room > INT_MAX) return -EINVAL;
+    if (room > sizeof owner) room = sizeof owner;
+    return write_memory(call, call->args[3], &owner, room) &&
+           write_memory(call, call->args[4], &room, sizeof room) ? 0 : -EFAULT;
 }
 
 long serve_listen(struct call *call) {

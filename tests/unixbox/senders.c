@@ -83,6 +83,28 @@ static pid_t next_sender(int on) {
     return user.pid;
 }
 
+/* Credentials are cut where there is less room, and those of a peer cannot be set. */
+static const char *check_room(int type) {
+    struct ucred peer = {0};
+    socklen_t size = sizeof peer.pid, large = 2 * sizeof peer;
+    _Alignas(struct cmsghdr) char control[CMSG_SPACE(sizeof peer)];
+    struct iovec part = {text, 1};
+    struct msghdr message = {.msg_iov = &part, .msg_iovlen = 1, .msg_control = control};
+    int pair[2];
+    make_pair(type, pair);
+    MUST(getsockopt(pair[0], SOL_SOCKET, SO_PEERCRED, &peer, &size) == 0);
+    MUST(size == sizeof peer.pid && peer.pid == getpid() && peer.uid == 0);
+    MUST(getsockopt(pair[0], SOL_SOCKET, SO_PEERCRED, text, &large) == 0 && large == sizeof peer);
+    MUST(setsockopt(pair[0], SOL_SOCKET, SO_PEERCRED, &peer, sizeof peer) < 0);
+    MUST(errno == ENOPROTOOPT && setsockopt(pair[1], SOL_SOCKET, SO_PASSCRED, &(int){1}, 4) == 0);
+    message.msg_controllen = CMSG_LEN(sizeof peer.pid);
+    MUST(write(pair[0], "x", 1) == 1 && recvmsg(pair[1], &message, 0) == 1);
+    MUST(message.msg_flags == MSG_CTRUNC && CMSG_FIRSTHDR(&message) != NULL);
+    MUST(CMSG_FIRSTHDR(&message)->cmsg_len == CMSG_LEN(sizeof peer.pid));
+    close_both(pair);
+    return "credentials are cut to their room";
+}
+
 /* Each message has the credentials of its own sender. */
 static const char *check_credentials(int type) {
     int pair[2], status;
@@ -154,7 +176,8 @@ static const struct {
     const char *name, *(*run)(int type);
 } checks[] = {
     {"name", check_name},     {"places", check_places}, {"credentials", check_credentials},
-    {"claim", check_claim},   {"length", check_length}, {"pidfd", check_pidfd},
+    {"room", check_room},     {"claim", check_claim},   {"length", check_length},
+    {"pidfd", check_pidfd},
 };
 
 int main(void) {
