@@ -24,7 +24,7 @@ use Rattle.jaywardrobe.proofs.Lookups.{insert-here, none_some, same_or_not, some
 use Rattle.jaywardrobe.proofs.PlaceMoves.{others-changed, there-changed, there-install, there-table}
 use Rattle.jaywardrobe.proofs.SettledWorlds.{get-without}
 use Rattle.jaywardrobe.proofs.SoundSteps.{NoneFits, Passed, none-fits, process-there, socket-there}
-use Rattle.examples.specs.Delivery.{Delivers, IsIdle, Takes, value_at}
+use Rattle.examples.specs.Delivery.{Delivers, IsIdle, Takes, descriptor_value}
 
 -- Settling leaves all tables as they are.
 same_tables : (w v : World) (p n : ℕ) → Settles w v → table_at v p n ≡ table_at w p n
@@ -149,7 +149,7 @@ module _ (old mid new : Machine) (p on n q at got : ℕ) (bytes : List ℕ) (r :
   ]
 
 -- The value of a file travels with it.
-pub carried : {T : Type 0} (old new : OwnedView T) (p n q m : ℕ) → Delivers old.machine.world p n new.machine.world q m → new.values ≡ old.values → value_at new q m ≡ value_at old p n
+pub carried : {T : Type 0} (old new : OwnedView T) (p n q m : ℕ) → Delivers old.machine.world p n new.machine.world q m → new.values ≡ old.values → descriptor_value new q m ≡ descriptor_value old p n
 carried old new p n q m d same =
     let file : table_at new.machine.world q m ≡ table_at old.machine.world p n = d.2 ∙ sym d.1 in
     λ i. option_and_then (map.get (same i)) (file i)

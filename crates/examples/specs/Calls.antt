@@ -35,26 +35,26 @@ error_number errno.ETOOMANYREFS = 109
 error_number errno.ECONNREFUSED = 111
 
 -- An error as a call answers it: the negative of its number (syscall(2)).
-abbrev pub below : ℕ → ℤ
-below n = pos 0 -ℤ pos n
+abbrev pub negative : ℕ → ℤ
+negative n = pos 0 -ℤ pos n
 
 -- The answer of a call: its number, or the error.
 abbrev pub answer_of : Result ℤ Errno → ℤ
 answer_of (Ok value) = value
-answer_of (Err e) = below (error_number e)
+answer_of (Err e) = negative (error_number e)
 
 -- The type of this number (socket(2): SOCK_STREAM is 1, SOCK_SEQPACKET is 5).
 abbrev pub type_numbered : ℕ → Option SockType
 type_numbered n = if nat_eq n 1 then Some kind.Stream else (if nat_eq n 5 then Some kind.Seqpacket else None)
 
 -- A pair of sockets of this type, or that there is none (socketpair(2), ESOCKTNOSUPPORT).
-abbrev pub pair_of : Option SockType → Result Step ℕ
-pair_of (Some k) = Ok (step.Pair k)
-pair_of None = Err 94
+abbrev pub pair_step : Option SockType → Result Step ℕ
+pair_step (Some k) = Ok (step.Pair k)
+pair_step None = Err 94
 
 -- The step that a socketpair(2) asks for, or why there is none (EAFNOSUPPORT).
 abbrev pub pair_asked : Registers → Result Step ℕ
-pair_asked r = if nat_eq r.first AF_UNIX then pair_of (type_numbered r.second) else Err 97
+pair_asked r = if nat_eq r.first AF_UNIX then pair_step (type_numbered r.second) else Err 97
 
 -- The step that a sendmsg(2) asks for.
 abbrev pub send_asked : Registers → Memory → Result Step ℕ
@@ -79,12 +79,12 @@ asked r m =
 
 -- A reply as the number that a call answers: a pid, a descriptor, how many bytes, or 0 (the manual
 -- page of each call).
-abbrev pub value_of : Reply → ℤ
-value_of (reply.Pid p) = pos p
-value_of (reply.Fd n) = pos n
-value_of (reply.Sent count) = pos count
-value_of (reply.Got bytes fds trunc ctrunc) = pos (length bytes)
-value_of r = pos 0
+abbrev pub reply_number : Reply → ℤ
+reply_number (reply.Pid p) = pos p
+reply_number (reply.Fd n) = pos n
+reply_number (reply.Sent count) = pos count
+reply_number (reply.Got bytes fds trunc ctrunc) = pos (length bytes)
+reply_number r = pos 0
 
 -- The memory after a call with this reply (socketpair(2), recvmsg(2)).
 abbrev pub written : Reply → Memory → Memory
@@ -95,15 +95,15 @@ written r before = before
 -- Process p did the step: one event of the machine, and its reply as a number and in memory.
 abbrev pub Serves : Machine → ℕ → Step → Memory → ℤ → Machine → Memory → Type 0
 Serves old p s before value new after =
-    (r : Reply) × Does old p s r new × (value ≡ value_of r) × (after ≡ written r before)
+    (r : Reply) × Does old p s r new × (value ≡ reply_number r) × (after ≡ written r before)
 
 -- The step was refused: the negative of the error, and nothing changed.
 abbrev pub Denies : Machine → ℕ → Step → Memory → ℤ → Machine → Memory → Type 0
 Denies old p s before value new after =
-    (e : Errno) × Refuses old p s e new × (value ≡ below (error_number e)) × (after ≡ before)
+    (e : Errno) × Refuses old p s e new × (value ≡ negative (error_number e)) × (after ≡ before)
 
 -- The outcome of a call that asks for this.
 abbrev pub AnswersCall : Machine → ℕ → Result Step ℕ → Memory → ℤ → Machine → Memory → Type 0
 AnswersCall old p (Ok s) before value new after =
     Serves old p s before value new after ⊎ Denies old p s before value new after
-AnswersCall old p (Err e) before value new after = (value ≡ below e) × (new ≡ old) × (after ≡ before)
+AnswersCall old p (Err e) before value new after = (value ≡ negative e) × (new ≡ old) × (after ≡ before)

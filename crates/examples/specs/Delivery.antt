@@ -17,8 +17,8 @@ abbrev pub Delivers : World → ℕ → ℕ → World → ℕ → ℕ → Type 0
 Delivers old p n new q m = (f : ℕ) × (table_at old p n ≡ Some f) × (table_at new q m ≡ Some f)
 
 -- The value of the file of a descriptor of process p.
-abbrev pub value_at : {T : Type 0} → OwnedView T → ℕ → ℕ → Option T
-value_at o p n = option_and_then (map.get o.values) (table_at o.machine.world p n)
+abbrev pub descriptor_value : {T : Type 0} → OwnedView T → ℕ → ℕ → Option T
+descriptor_value o p n = option_and_then (map.get o.values) (table_at o.machine.world p n)
 
 -- Process p has a socket at n, in whose queue nothing waits.
 pub record IsIdle (w : World) (p n : ℕ) : Type 0 where

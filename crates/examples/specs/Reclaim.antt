@@ -7,9 +7,9 @@ use Rattle.jaywardrobe.specs.Pass.{Begins, GoesOn, Idle, Machine, Pass, Running,
 use Rattle.examples.specs.declared.broker.reclaim.TheConstants.{BUDGET}
 
 -- The reply of a slice that comes to this.
-abbrev pub slice_reply : Option Finished → Reply
-slice_reply None = reply.Working
-slice_reply (Some f) = finished_reply f
+abbrev pub reclaim_reply : Option Finished → Reply
+reclaim_reply None = reply.Working
+reclaim_reply (Some f) = finished_reply f
 
 -- Without a running pass the next one begins, and reports nothing; else the running one continues
 -- by a slice.
@@ -17,4 +17,4 @@ abbrev pub Reclaims : Pass → Machine → Option Finished → Machine → Type 
 Reclaims Idle old finished new = (finished ≡ None)
     × Begins Idle old (reply.Started (next_pass old.last_pass)) new
 Reclaims (Running begun spent) old finished new = GoesOn (Running begun spent) old BUDGET
-    (slice_reply finished) new
+    (reclaim_reply finished) new

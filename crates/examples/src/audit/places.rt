@@ -2,7 +2,7 @@
 ghost use Rattle.std.specs.Prelude.{◌≡◌, ◌++◌, IfOk, OnOk};
 ghost use Rattle.jaywardrobe.specs.Listing.{AreFiles, AreTables, file_of, inos_of, listed};
 ghost use Rattle.jaywardrobe.specs.Places.{contents};
-ghost use Rattle.examples.specs.Places.{ListsAll, files_of};
+ghost use Rattle.examples.specs.Places.{ListsAll, referred_files};
 
 use jaywardrobe::{Engine, Fd, Ino, ListedFile, ListedTable, Pid};
 use std::alloc::{AllocError, Global};
@@ -70,7 +70,7 @@ fn gather(
 /// Appends the places of the table's descriptors.
 fn push_table(places: &mut Vec<Reference>, table: &ListedTable) -> Result<(), AllocError>
     ensures { OnOk result
-        (files_of places.new.items ≡ files_of places.old.items ++ inos_of table.now) }
+        (referred_files places.new.items ≡ referred_files places.old.items ++ inos_of table.now) }
 {
     for number in &table.numbers {
         places.push(Reference {
@@ -83,8 +83,8 @@ fn push_table(places: &mut Vec<Reference>, table: &ListedTable) -> Result<(), Al
 
 /// Appends the places in the file's queue and backlog.
 fn push_contents(places: &mut Vec<Reference>, file: &ListedFile) -> Result<(), AllocError>
-    ensures { OnOk result
-        (files_of places.new.items ≡ files_of places.old.items ++ contents (file_of file.now)) }
+    ensures { OnOk result (referred_files places.new.items
+        ≡ referred_files places.old.items ++ contents (file_of file.now)) }
 {
     let Some(socket) = &file.socket else {
         return Ok(());
@@ -105,7 +105,8 @@ fn push_contents(places: &mut Vec<Reference>, file: &ListedFile) -> Result<(), A
 
 /// Appends these files, each held so.
 fn push_all(places: &mut Vec<Reference>, files: &[Ino], holder: &Location) -> Result<(), AllocError>
-    ensures { OnOk result (files_of places.new.items ≡ files_of places.old.items ++ files.now) }
+    ensures { OnOk result
+        (referred_files places.new.items ≡ referred_files places.old.items ++ files.now) }
 {
     for file in files {
         places.push(Reference {

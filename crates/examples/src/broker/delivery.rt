@@ -1,6 +1,6 @@
 //! The delivery of a descriptor through a connection.
 ghost use Rattle.std.specs.Prelude.{◌≡◌, IfErr, IfOk, OnOk};
-ghost use Rattle.examples.specs.Delivery.{Delivers, IsIdle, Takes, value_at};
+ghost use Rattle.examples.specs.Delivery.{Delivers, IsIdle, Takes, descriptor_value};
 
 use crate::broker::host::HostFile;
 use jaywardrobe::{Errno, Fd, Owned, Pid, Received};
@@ -49,7 +49,7 @@ pub fn deliver(
     ensures delivered { IfOk result (λ got.
         Delivers engine.old.machine.world from.now.pid fd engine.new.machine.world to.now.pid got) }
     ensures carried { IfOk result (λ got.
-        value_at engine.new to.now.pid got ≡ value_at engine.old from.now.pid fd) }
+        descriptor_value engine.new to.now.pid got ≡ descriptor_value engine.old from.now.pid fd) }
     ensures busy { IfErr result (λ error.
         error ≡ Undelivered.Busy → ¬ (IsIdle engine.old.machine.world to.now.pid to.now.fd)) }
 {

@@ -1,6 +1,6 @@
 //! Linux's numbers: of its calls on x86-64, of types of sockets, and of errors.
 ghost use Rattle.std.specs.Prelude.{◌≡◌, pos};
-ghost use Rattle.examples.specs.Calls.{answer_of, below, error_number, type_numbered};
+ghost use Rattle.examples.specs.Calls.{answer_of, negative, error_number, type_numbered};
 
 use jaywardrobe::{Errno, SockType};
 
@@ -60,7 +60,7 @@ pub fn answer_of(outcome: Result<i64, Errno>) -> i64
 
 /// Returns the answer of a refused call (syscall(2)).
 pub fn refusal(error: Errno) -> i64
-    ensures { result ≡ below (error_number error) }
+    ensures { result ≡ negative (error_number error) }
 {
     -error_number(error)
 }
