@@ -12,7 +12,7 @@ use Rattle.af_base.proofs.Lookups.{none_some, some_same}
 use Rattle.af_base.proofs.PlaceMoves.{there-table}
 use Rattle.af_base.proofs.SoundSteps.{goes-on}
 use Rattle.af_collect.specs.Limits.{IsBelowLimit}
-use Rattle.af_steps.specs.Found.{HasNumber, HasProcess, HasSocket}
+use Rattle.af_steps.specs.Found.{HasDescriptor, HasProcess, HasSocket}
 
 -- No socket was found: that refuses each step that asks for one.
 pub no-socket : (w : World) (p n : ℕ) (rest : RefusalRow) (e : Errno) → first_fit (on_process (map.get w.processes p) ++ at_socket w p n) ≡ Some e → first_fit (on_process (map.get w.processes p) ++ (at_socket w p n ++ rest)) ≡ Some e
@@ -59,7 +59,7 @@ module _ {w : World} {p : ℕ} {q : Process} (has : HasProcess w p q) where
   pub room-below : (n room : ℕ) → n < q.limit → (process_at w p).limit ≤ room → n < room
   room-below n room low most = let same = ap (λ (x : Process). x.limit) is_process in omega (arith, low, most, same)
 
-module _ {w : World} {p : ℕ} {q : Process} {n f : ℕ} (has : HasNumber w p q n f) where
+module _ {w : World} {p : ℕ} {q : Process} {n f : ℕ} (has : HasDescriptor w p q n f) where
   -- The descriptor refers to the file.
   pub tabled : table_at w p n ≡ Some f
   tabled = (λ i. looks has.process i n) ∙ has.stands

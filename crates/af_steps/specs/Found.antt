@@ -14,14 +14,14 @@ use Rattle.af_base.specs.World.{Process, Socket, World}
 pub record HasProcess (w : World) (p : ℕ) (q : Process) : Type 0 where
   pub there : map.get w.processes p ≡ Some q
 
--- So it is, and its descriptor n refers to this file.
-pub record HasNumber (w : World) (p : ℕ) (q : Process) (n f : ℕ) : Type 0 where
+-- The process p of the world is this one, and its descriptor n refers to file f (open(2)).
+pub record HasDescriptor (w : World) (p : ℕ) (q : Process) (n f : ℕ) : Type 0 where
   pub process : HasProcess w p q
   pub stands : map.get q.table n ≡ Some f
 
--- So it is, and the file is this socket.
+-- The descriptor n of process p refers to file f, which is this socket.
 pub record HasSocket (w : World) (p : ℕ) (q : Process) (n f : ℕ) (x : Socket) : Type 0 where
-  pub number : HasNumber w p q n f
+  pub number : HasDescriptor w p q n f
   pub found : socket_at w f ≡ Some x
 
 -- A connect of process p at its descriptor n finds socket f, and the listener g of this name, with

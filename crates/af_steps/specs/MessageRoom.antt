@@ -22,7 +22,7 @@ room_row w q s count = on_charge (charged w q.user) (total w) q.limit q.privileg
 
 -- Socket s of this world has room for the message: its queue is not full, tables hold its files,
 -- the user of a process is charged for them, and all limits are kept.
-pub record HasRoom (w : World) (s : ℕ) (m : Message) : Type 0 where
+pub record HasRoomForMessage (w : World) (s : ℕ) (m : Message) : Type 0 where
   pub socket : is_none (socket_at w s) ≡ false
   pub queue : length (queue_at w s) < MAX_MESSAGES
   pub tabled : (f : ℕ) → Contains m.attached f → InTable w f

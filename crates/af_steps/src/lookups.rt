@@ -7,7 +7,7 @@ ghost use Rattle.af_base.specs.Refusals.{at_socket, first_fit, is_full, on_numbe
 ghost use Rattle.af_base.specs.Refusals.{process_at, refusal};
 ghost use Rattle.af_base.specs.Table.{free_numbers, lowest_free};
 ghost use Rattle.af_collect.specs.StoreView.{room_at};
-ghost use Rattle.af_steps.specs.Found.{HasNumber, HasProcess, HasSocket};
+ghost use Rattle.af_steps.specs.Found.{HasDescriptor, HasProcess, HasSocket};
 
 use af_base::errno::Errno;
 use af_base::events::{SockType, Step};
@@ -59,7 +59,7 @@ pub fn descriptors_for_pair(store: &Store, pid: Pid) -> Result<(Fd, Fd), Errno>
 #[inline(always)]
 pub fn file_on(store: &Store, pid: Pid, fd: Fd) -> Result<(&Process, FileRef), Errno>
     ensures found { IfOk result (λ found.
-        HasNumber store.now.world pid found.0.now.process fd found.1) }
+        HasDescriptor store.now.world pid found.0.now.process fd found.1) }
     ensures refused { IfErr result (λ e. first_fit (on_process
         (map.get store.now.world.processes pid) ++ on_number (table_at store.now.world pid fd))
         ≡ Some e) }

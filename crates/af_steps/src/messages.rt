@@ -12,7 +12,7 @@ ghost use Rattle.af_collect.specs.Receiving.{CanReceive};
 ghost use Rattle.af_collect.specs.StoreView.{room_at};
 ghost use Rattle.af_steps.specs.Found.{HasEnd, HasMessage};
 ghost use Rattle.af_steps.specs.Outcome.{Does, Refuses, got_reply, step_error};
-ghost use Rattle.af_steps.specs.MessageRoom.{HasRoom, message_in, room_row};
+ghost use Rattle.af_steps.specs.MessageRoom.{HasRoomForMessage, message_in, room_row};
 
 use crate::engine::Engine;
 use crate::lookups::socket_on;
@@ -126,7 +126,8 @@ impl Engine {
         ensures leads { IfOk result (λ e.
             effect self.now.world pid (Step.Send on bytes.now attach.now)
             ≡ push_message self.now.world e.peer (message_in e bytes.now)) }
-        ensures room { IfOk result (λ e. HasRoom self.now.world e.peer (message_in e bytes.now)) }
+        ensures room { IfOk result (λ e.
+            HasRoomForMessage self.now.world e.peer (message_in e bytes.now)) }
         ensures refused { IfErr result (λ e.
             Refuses self.now pid (Step.Send on bytes.now attach.now) e self.now) }
     {
@@ -150,7 +151,7 @@ impl Engine {
     /// memory is refused, nothing has changed.
     #[inline(always)]
     fn commit_send(&mut self, envelope: Envelope, bytes: Bytes) -> Result<u32, Errno>
-        requires { HasRoom self.old.world envelope.peer (message_in envelope bytes) }
+        requires { HasRoomForMessage self.old.world envelope.peer (message_in envelope bytes) }
         ensures count { IfOk result (λ count. count ≡ length bytes) }
         ensures settles { OnOk result (Settles (push_message self.old.world envelope.peer
             (message_in envelope bytes)) self.new.world) }

@@ -9,7 +9,7 @@ use Rattle.af_base.specs.Places.{queue_at, table_at}
 use Rattle.af_base.specs.Refusals.{refusal, on_parts, on_peer, peer_of, process_at, socket_on}
 use Rattle.af_base.specs.World.{Message}
 use Rattle.af_base.proofs.SoundSteps.{none-fits}
-use Rattle.af_steps.specs.MessageRoom.{HasRoom, message_in, room_row}
+use Rattle.af_steps.specs.MessageRoom.{HasRoomForMessage, message_in, room_row}
 use Rattle.af_steps.proofs.LookupRows.{is_process, no-socket}
 use Rattle.af_steps.proofs.Outcomes.{starves, turned-down}
 use Rattle.af_steps.proofs.Sends.{after-peer, refused-parts, refused-peer, sent, sent-flying, sent-tabled, sent-within}
@@ -68,7 +68,7 @@ returns-clause-room c =
     let is : m ≡ sent found c.args.bytes.now c.args.attach.now = λ i. record { bytes = c.args.bytes.now; attached = c.in_ok-check_parts.ensures.files all i; user = c.in_ok-user.ensures.user i } in
     let process = found.number.process in
     let room = c.in_ok-user.ensures.ok in
-    subst (λ (x : Machine). HasRoom x.world g m) c.self.view_is
+    subst (λ (x : Machine). HasRoomForMessage x.world g m) c.self.view_is
     (record {
       socket = search rules;
       queue = leb-false MAX_MESSAGES (length (queue_at w g)) (none-fits (room_row w q g (length c.args.attach.now)) room).rest.rest.here;
