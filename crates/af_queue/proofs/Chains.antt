@@ -16,7 +16,7 @@ use Rattle.af_base.specs.World.{Message}
 use Rattle.af_base.proofs.Lookups.{none_some, some_same}
 use Rattle.af_queue.specs.declared.chain.Chain.{Chain}
 use Rattle.af_queue.specs.declared.chain.Node.{Node}
-use Rattle.af_queue.specs.Chains.{has_node, keys_from, keys_of, messages_from, messages_of, next_at, AreApart, IsChain, IsPath, SameElsewhere}
+use Rattle.af_queue.specs.Chains.{has_node, node_keys_from, node_keys, messages_from, messages_of, next_at, AreApart, IsChain, IsPath, SameElsewhere}
 use Rattle.af_queue.specs.Queued.{AreWithin}
 use Rattle.af_queue.proofs.Spans.{cut-part}
 
@@ -45,25 +45,25 @@ behind q k ks h = by (nat_eq q k) where
 
 module _ (s t : Slab Node) (l : ℕ) where
   -- An invariant of a path is one of the rest of it.
-  rest_kept : (k n : ℕ) (x : Node) → slots.get s k ≡ Some x → KeepsKeys s t (keys_from s k (suc n)) → KeepsKeys s t (keys_from s x.next n)
-  rest_kept k n x at keeps q h = keeps q (behind q k (keys_from s (next_at s k) n) (ap (λ z. list_any (nat_eq q) (keys_from s z n)) (next_there s k x at) ∙ h))
+  rest_kept : (k n : ℕ) (x : Node) → slots.get s k ≡ Some x → KeepsKeys s t (node_keys_from s k (suc n)) → KeepsKeys s t (node_keys_from s x.next n)
+  rest_kept k n x at keeps q h = keeps q (behind q k (node_keys_from s (next_at s k) n) (ap (λ z. list_any (nat_eq q) (node_keys_from s z n)) (next_there s k x at) ∙ h))
 
   -- The other slab has the same first node, where it keeps the keys.
-  first_kept : (k n : ℕ) (x : Node) → slots.get s k ≡ Some x → KeepsKeys s t (keys_from s k (suc n)) → slots.get t k ≡ Some x
-  first_kept k n x at keeps = keeps k (itself k (keys_from s (next_at s k) n)) ∙ at
+  first_kept : (k n : ℕ) (x : Node) → slots.get s k ≡ Some x → KeepsKeys s t (node_keys_from s k (suc n)) → slots.get t k ≡ Some x
+  first_kept k n x at keeps = keeps k (itself k (node_keys_from s (next_at s k) n)) ∙ at
 
   -- A path whose nodes are kept has the same keys there.
-  keys_kept : (k n : ℕ) → IsPath s l k n → KeepsKeys s t (keys_from s k n) → keys_from t k n ≡ keys_from s k n
+  keys_kept : (k n : ℕ) → IsPath s l k n → KeepsKeys s t (node_keys_from s k n) → node_keys_from t k n ≡ node_keys_from s k n
   keys_kept k zero p keeps = refl
   keys_kept k (suc n) p keeps =
       let x = p.0 in
       ap (λ ks. k ∷ ks)
-      (ap (λ z. keys_from t z n) (next_there t k x (first_kept k n x p.1.0 keeps))
+      (ap (λ z. node_keys_from t z n) (next_there t k x (first_kept k n x p.1.0 keeps))
       ∙ keys_kept x.next n p.1.4 (rest_kept k n x p.1.0 keeps)
-      ∙ ap (λ z. keys_from s z n) (sym (next_there s k x p.1.0)))
+      ∙ ap (λ z. node_keys_from s z n) (sym (next_there s k x p.1.0)))
 
   -- A path whose nodes are kept is one there too.
-  pub path_kept : (k n : ℕ) → IsPath s l k n → KeepsKeys s t (keys_from s k n) → IsPath t l k n
+  pub path_kept : (k n : ℕ) → IsPath s l k n → KeepsKeys s t (node_keys_from s k n) → IsPath t l k n
   path_kept k zero p keeps = refl
   path_kept k (suc n) p keeps =
       let x = p.0 in
@@ -72,7 +72,7 @@ module _ (s t : Slab Node) (l : ℕ) where
       (x, (first_kept k n x p.1.0 keeps, apart, p.1.2, p.1.3, path_kept x.next n p.1.4 rest))
 
   -- And shows the same messages.
-  pub messages_kept : (k n : ℕ) → IsPath s l k n → KeepsKeys s t (keys_from s k n) → messages_from t k n ≡ messages_from s k n
+  pub messages_kept : (k n : ℕ) → IsPath s l k n → KeepsKeys s t (node_keys_from s k n) → messages_from t k n ≡ messages_from s k n
   messages_kept k zero p keeps = refl
   messages_kept k (suc n) p keeps =
       let x = p.0 in
@@ -81,11 +81,11 @@ module _ (s t : Slab Node) (l : ℕ) where
       ∙ sym (first_there s k n x p.1.0)
 
 -- There is a node at each key of a path.
-pub node_there : (s : Slab Node) (l q k n : ℕ) → IsPath s l k n → list_any (nat_eq q) (keys_from s k n) ≡ true → (x : Node) × (slots.get s q ≡ Some x)
+pub node_there : (s : Slab Node) (l q k n : ℕ) → IsPath s l k n → list_any (nat_eq q) (node_keys_from s k n) ≡ true → (x : Node) × (slots.get s q ≡ Some x)
 node_there s l q k zero p h = absurd (true≢false (sym h))
 node_there s l q k (suc n) p h =
-    by (nat_eq q k) refl h (λ h. node_there s l q p.0.next n p.1.4 (ap (λ z. list_any (nat_eq q) (keys_from s z n)) (sym (next_there s k p.0 p.1.0)) ∙ h)) where
-      by : (b : Bool) → nat_eq q k ≡ b → b || list_any (nat_eq q) (keys_from s (next_at s k) n) ≡ true → (list_any (nat_eq q) (keys_from s (next_at s k) n) ≡ true → (x : Node) × (slots.get s q ≡ Some x)) → (x : Node) × (slots.get s q ≡ Some x)
+    by (nat_eq q k) refl h (λ h. node_there s l q p.0.next n p.1.4 (ap (λ z. list_any (nat_eq q) (node_keys_from s z n)) (sym (next_there s k p.0 p.1.0)) ∙ h)) where
+      by : (b : Bool) → nat_eq q k ≡ b → b || list_any (nat_eq q) (node_keys_from s (next_at s k) n) ≡ true → (list_any (nat_eq q) (node_keys_from s (next_at s k) n) ≡ true → (x : Node) × (slots.get s q ≡ Some x)) → (x : Node) × (slots.get s q ≡ Some x)
       by true e h rest = (p.0, ap (slots.get s) (eqb-true q k e) ∙ p.1.0)
       by false e h rest = rest h
 
@@ -108,11 +108,11 @@ neqb a b ne = by (nat_eq a b) refl where
   by false e = e
 
 -- The last node's key is among the keys.
-last_in : (s : Slab Node) (l : ℕ) (k n : ℕ) → IsPath s l k (suc n) → list_any (nat_eq l) (keys_from s k (suc n)) ≡ true
+last_in : (s : Slab Node) (l : ℕ) (k n : ℕ) → IsPath s l k (suc n) → list_any (nat_eq l) (node_keys_from s k (suc n)) ≡ true
 last_in s l k zero p = ap (λ b. b || false) (eq-eqb l k (sym (p.1.2 refl)))
 last_in s l k (suc n) p =
     let x = p.0 in
-    let rest = ap (λ z. list_any (nat_eq l) (keys_from s z (suc n))) (next_there s k x p.1.0) ∙ last_in s l x.next n p.1.4 in
+    let rest = ap (λ z. list_any (nat_eq l) (node_keys_from s z (suc n))) (next_there s k x p.1.0) ∙ last_in s l x.next n p.1.4 in
     by (nat_eq l k) rest where
       by : (b : Bool) → {c : Bool} → c ≡ true → b || c ≡ true
       by true h = refl
@@ -132,13 +132,13 @@ module _ (s u : Slab Node) (l key : ℕ) (node : Node)
   apart_key q x at = neqb q key (fresh q x at)
 
   -- A node before the last stays.
-  pub before : (k n : ℕ) (x : Node) → slots.get s k ≡ Some x → list_any (nat_eq k) (keys_from s x.next (suc n)) ≡ false → IsPath s l x.next (suc n) → slots.get u k ≡ Some x
+  pub before : (k n : ℕ) (x : Node) → slots.get s k ≡ Some x → list_any (nat_eq k) (node_keys_from s x.next (suc n)) ≡ false → IsPath s l x.next (suc n) → slots.get u k ≡ Some x
   before k n x at apart rest = others k (fresh k x at) not_last ∙ at where
     not_last : k ≢ l
-    not_last e = absurd (true≢false (sym (last_in s l x.next n rest) ∙ ap (λ z. list_any (nat_eq z) (keys_from s x.next (suc n))) (sym e) ∙ apart))
+    not_last e = absurd (true≢false (sym (last_in s l x.next n rest) ∙ ap (λ z. list_any (nat_eq z) (node_keys_from s x.next (suc n))) (sym e) ∙ apart))
 
   -- The keys of the longer path are the old ones, and then the new one.
-  keys_more : (k n : ℕ) → IsPath s l k (suc n) → keys_from u k (suc (suc n)) ≡ keys_from s k (suc n) ++ key ∷ []
+  keys_more : (k n : ℕ) → IsPath s l k (suc n) → node_keys_from u k (suc (suc n)) ≡ node_keys_from s k (suc n) ++ key ∷ []
   keys_more k zero p =
       let x = p.0 in
       let at = subst (λ q. slots.get u q ≡ Some (record x { next = key })) (sym (p.1.2 refl)) (linked x (ap (slots.get s) (sym (p.1.2 refl)) ∙ p.1.0)) in
@@ -146,9 +146,9 @@ module _ (s u : Slab Node) (l key : ℕ) (node : Node)
   keys_more k (suc n) p =
       let x = p.0 in
       ap (λ ks. k ∷ ks)
-      (ap (λ z. keys_from u z (suc (suc n))) (next_there u k x (before k n x p.1.0 p.1.1 p.1.4))
+      (ap (λ z. node_keys_from u z (suc (suc n))) (next_there u k x (before k n x p.1.0 p.1.1 p.1.4))
       ∙ keys_more x.next n p.1.4
-      ∙ ap (λ z. keys_from s z (suc n) ++ key ∷ []) (sym (next_there s k x p.1.0)))
+      ∙ ap (λ z. node_keys_from s z (suc n) ++ key ∷ []) (sym (next_there s k x p.1.0)))
 
   -- A key that is not among some, and is not the new one, is not among these and the new one.
   list_any_more : (q : ℕ) (ks : List ℕ) → list_any (nat_eq q) ks ≡ false → nat_eq q key ≡ false → list_any (nat_eq q) (ks ++ key ∷ []) ≡ false
@@ -166,7 +166,7 @@ module _ (s u : Slab Node) (l key : ℕ) (node : Node)
       (record x { next = key }, (at, ap (λ b. b || false) (apart_key k x p.1.0), (λ e. absurd (suc-ne-zero _ e)), p.1.3, (node, (put, refl, (λ e. refl), within, refl))))
   path_more k (suc n) p =
       let x = p.0 in
-      let apart = ap (list_any (nat_eq k)) (keys_more x.next n p.1.4) ∙ list_any_more k (keys_from s x.next (suc n)) p.1.1 (apart_key k x p.1.0) in
+      let apart = ap (list_any (nat_eq k)) (keys_more x.next n p.1.4) ∙ list_any_more k (node_keys_from s x.next (suc n)) p.1.1 (apart_key k x p.1.0) in
       (x, (before k n x p.1.0 p.1.1 p.1.4, apart, (λ e. absurd (suc-ne-zero _ e)), p.1.3, path_more x.next n p.1.4))
 
   -- Its message comes last.
@@ -219,14 +219,14 @@ module _ (s t u : Slab Node) (l key : ℕ) (node : Node) (vacant : slots.get s k
         rest q off not_last = others q not_last ∙ update.others q off
 
   -- Nothing else changes.
-  pub pushed_elsewhere : (k n : ℕ) → n ≢ zero → IsPath s l k n → StaysApart s (keys_from s k n) u (keys_from u k (n + 1))
+  pub pushed_elsewhere : (k n : ℕ) → n ≢ zero → IsPath s l k n → StaysApart s (node_keys_from s k n) u (node_keys_from u k (n + 1))
   pushed_elsewhere k zero ne p q x at off = absurd (ne refl)
-  pushed_elsewhere k (suc n) ne p q x at off = (others q not_last ∙ old q x at, ap (λ z. list_any (nat_eq q) (keys_from u k z)) (sym one_more) ∙ ap (list_any (nat_eq q)) more ∙ still) where
+  pushed_elsewhere k (suc n) ne p q x at off = (others q not_last ∙ old q x at, ap (λ z. list_any (nat_eq q) (node_keys_from u k z)) (sym one_more) ∙ ap (list_any (nat_eq q)) more ∙ still) where
     one_more : suc (suc n) ≡ suc n + 1
     one_more = omega arith
 
     not_last : q ≢ l
-    not_last e = true≢false (sym (ap (λ z. list_any (nat_eq z) (keys_from s k (suc n))) e ∙ last_in s l k n p) ∙ off)
+    not_last e = true≢false (sym (ap (λ z. list_any (nat_eq z) (node_keys_from s k (suc n))) e ∙ last_in s l k n p) ∙ off)
 
     put : slots.get u key ≡ Some node
     put = others key (key_off k n p) ∙ update.changed
@@ -234,17 +234,17 @@ module _ (s t u : Slab Node) (l key : ℕ) (node : Node) (vacant : slots.get s k
     rest : (q : ℕ) → q ≢ key → q ≢ l → slots.get u q ≡ slots.get s q
     rest q off not_last = others q not_last ∙ update.others q off
 
-    more : keys_from u k (suc (suc n)) ≡ keys_from s k (suc n) ++ key ∷ []
+    more : node_keys_from u k (suc (suc n)) ≡ node_keys_from s k (suc n) ++ key ∷ []
     more = keys_more s u l key node vacant put within (λ x at. linked x (old l x at)) rest k n p
 
-    still : list_any (nat_eq q) (keys_from s k (suc n) ++ key ∷ []) ≡ false
-    still = list_any_more s u l key node vacant put within (λ x at. linked x (old l x at)) rest q (keys_from s k (suc n)) off (neqb q key (λ e. none_some x (sym vacant ∙ ap (slots.get s) (sym e) ∙ at)))
+    still : list_any (nat_eq q) (node_keys_from s k (suc n) ++ key ∷ []) ≡ false
+    still = list_any_more s u l key node vacant put within (λ x at. linked x (old l x at)) rest q (node_keys_from s k (suc n)) off (neqb q key (λ e. none_some x (sym vacant ∙ ap (slots.get s) (sym e) ∙ at)))
 
 -- The first node of a path is removed.
 module _ (s t : Slab Node) (l k n : ℕ) (p : IsPath s l k (suc n)) (update : Updates s t k None) where
   -- The nodes behind the first stay.
-  rest_stays : KeepsKeys s t (keys_from s p.0.next n)
-  rest_stays q h = update.others q (λ e. true≢false (sym h ∙ ap (λ z. list_any (nat_eq z) (keys_from s p.0.next n)) e ∙ p.1.1))
+  rest_stays : KeepsKeys s t (node_keys_from s p.0.next n)
+  rest_stays q h = update.others q (λ e. true≢false (sym h ∙ ap (λ z. list_any (nat_eq z) (node_keys_from s p.0.next n)) e ∙ p.1.1))
 
   -- The nodes behind the first are a path.
   pub popped : IsPath t l p.0.next n
@@ -255,30 +255,30 @@ module _ (s t : Slab Node) (l k n : ℕ) (p : IsPath s l k (suc n)) (update : Up
   messages_popped = first_there s k n p.0 p.1.0 ∙ ap (λ ms. p.0.message ∷ ms) (sym (messages_kept s t l p.0.next n p.1.4 rest_stays))
 
   -- The nodes of other queues stay.
-  popped_elsewhere : StaysApart s (keys_from s k (suc n)) t (keys_from t p.0.next n)
+  popped_elsewhere : StaysApart s (node_keys_from s k (suc n)) t (node_keys_from t p.0.next n)
   popped_elsewhere q x at off =
-      let apart = off_all q k (keys_from s (next_at s k) n) off in
+      let apart = off_all q k (node_keys_from s (next_at s k) n) off in
       let same = keys_kept s t l p.0.next n p.1.4 rest_stays in
-      (update.others q apart.0 ∙ at, ap (list_any (nat_eq q)) same ∙ ap (λ z. list_any (nat_eq q) (keys_from s z n)) (sym (next_there s k p.0 p.1.0)) ∙ apart.1)
+      (update.others q apart.0 ∙ at, ap (list_any (nat_eq q)) same ∙ ap (λ z. list_any (nat_eq q) (node_keys_from s z n)) (sym (next_there s k p.0 p.1.0)) ∙ apart.1)
 
   -- The removed node was the first.
-  pub popped_at : (node : Node) → slots.get s k ≡ Some node → IsPath t l node.next (suc n - 1) × (messages_from s k (suc n) ≡ node.message ∷ messages_from t node.next (suc n - 1)) × StaysApart s (keys_from s k (suc n)) t (keys_from t node.next (suc n - 1))
+  pub popped_at : (node : Node) → slots.get s k ≡ Some node → IsPath t l node.next (suc n - 1) × (messages_from s k (suc n) ≡ node.message ∷ messages_from t node.next (suc n - 1)) × StaysApart s (node_keys_from s k (suc n)) t (node_keys_from t node.next (suc n - 1))
   popped_at node at =
-      subst (λ y. IsPath t l y.next (suc n - 1) × (messages_from s k (suc n) ≡ y.message ∷ messages_from t y.next (suc n - 1)) × StaysApart s (keys_from s k (suc n)) t (keys_from t y.next (suc n - 1))) (some_same p.0 node (sym p.1.0 ∙ at))
-      (subst (λ z. IsPath t l p.0.next z × (messages_from s k (suc n) ≡ p.0.message ∷ messages_from t p.0.next z) × StaysApart s (keys_from s k (suc n)) t (keys_from t p.0.next z)) less (popped, messages_popped, popped_elsewhere)) where
+      subst (λ y. IsPath t l y.next (suc n - 1) × (messages_from s k (suc n) ≡ y.message ∷ messages_from t y.next (suc n - 1)) × StaysApart s (node_keys_from s k (suc n)) t (node_keys_from t y.next (suc n - 1))) (some_same p.0 node (sym p.1.0 ∙ at))
+      (subst (λ z. IsPath t l p.0.next z × (messages_from s k (suc n) ≡ p.0.message ∷ messages_from t p.0.next z) × StaysApart s (node_keys_from s k (suc n)) t (node_keys_from t p.0.next z)) less (popped, messages_popped, popped_elsewhere)) where
         less : n ≡ suc n - 1
         less = omega arith
 
 -- The first message of a queue that has some.
-pub pops : (s t : Slab Node) (l k n : ℕ) (node : Node) → n ≢ zero → slots.get s k ≡ Some node → Updates s t k None → IsPath s l k n → IsPath t l node.next (n - 1) × (messages_from s k n ≡ node.message ∷ messages_from t node.next (n - 1)) × StaysApart s (keys_from s k n) t (keys_from t node.next (n - 1))
+pub pops : (s t : Slab Node) (l k n : ℕ) (node : Node) → n ≢ zero → slots.get s k ≡ Some node → Updates s t k None → IsPath s l k n → IsPath t l node.next (n - 1) × (messages_from s k n ≡ node.message ∷ messages_from t node.next (n - 1)) × StaysApart s (node_keys_from s k n) t (node_keys_from t node.next (n - 1))
 pops s t l k zero node ne at update p = absurd (ne refl)
 pops s t l k (suc n) node ne at update p = popped_at s t l k n p update node at
 
 -- The message of the first node of a path is another one.
 module _ (s t : Slab Node) (l k n : ℕ) (p : IsPath s l k (suc n)) (m : Message) (within : IsMessageWithin m) (here : slots.get t k ≡ Some (record p.0 { message = m })) (others : (q : ℕ) → q ≢ k → slots.get t q ≡ slots.get s q) where
   -- The nodes behind the first stay.
-  rest_as_it_was : KeepsKeys s t (keys_from s p.0.next n)
-  rest_as_it_was q h = others q (λ e. true≢false (sym h ∙ ap (λ z. list_any (nat_eq z) (keys_from s p.0.next n)) e ∙ p.1.1))
+  rest_as_it_was : KeepsKeys s t (node_keys_from s p.0.next n)
+  rest_as_it_was q h = others q (λ e. true≢false (sym h ∙ ap (λ z. list_any (nat_eq z) (node_keys_from s p.0.next n)) e ∙ p.1.1))
 
   -- The nodes are still a path.
   pub changed : IsPath t l k (suc n)
@@ -291,19 +291,19 @@ module _ (s t : Slab Node) (l k n : ℕ) (p : IsPath s l k (suc n)) (m : Message
   messages_changed = first_there t k n (record p.0 { message = m }) here ∙ ap (λ ms. m ∷ ms) (messages_kept s t l p.0.next n p.1.4 rest_as_it_was)
 
   -- The nodes of other queues stay.
-  pub changed_elsewhere : StaysApart s (keys_from s k (suc n)) t (keys_from t k (suc n))
+  pub changed_elsewhere : StaysApart s (node_keys_from s k (suc n)) t (node_keys_from t k (suc n))
   changed_elsewhere q x at off =
-      let rest = ap (λ z. keys_from t z n) (next_there t k (record p.0 { message = m }) here) ∙ keys_kept s t l p.0.next n p.1.4 rest_as_it_was ∙ ap (λ z. keys_from s z n) (sym (next_there s k p.0 p.1.0)) in
-      (others q (off_all q k (keys_from s (next_at s k) n) off).0 ∙ at, ap (λ ks. list_any (nat_eq q) (k ∷ ks)) rest ∙ off)
+      let rest = ap (λ z. node_keys_from t z n) (next_there t k (record p.0 { message = m }) here) ∙ keys_kept s t l p.0.next n p.1.4 rest_as_it_was ∙ ap (λ z. node_keys_from s z n) (sym (next_there s k p.0 p.1.0)) in
+      (others q (off_all q k (node_keys_from s (next_at s k) n) off).0 ∙ at, ap (λ ks. list_any (nat_eq q) (k ∷ ks)) rest ∙ off)
 
 -- Its first bytes go, and its files.
 module _ (s : Slab Node) (l k n : ℕ) (node : Node) (m : Message) (count : ℕ) (some : 0 < count) (at : slots.get s k ≡ Some node) (is : m ≡ record node.message { bytes = drop count node.message.bytes; attached = [] }) where
   -- The nodes are still a path, the messages are cut, and the nodes of other queues stay.
   pub shortened : IsPath s l k n → count < option_map_or (λ m. length m.bytes) (slice_get (messages_from s k n) 0) 0
-      → IsPath (slots.with_value s k (record node { message = m })) l k n × (messages_from (slots.with_value s k (record node { message = m })) k n ≡ cut count (messages_from s k n)) × StaysApart s (keys_from s k n) (slots.with_value s k (record node { message = m })) (keys_from (slots.with_value s k (record node { message = m })) k n)
+      → IsPath (slots.with_value s k (record node { message = m })) l k n × (messages_from (slots.with_value s k (record node { message = m })) k n ≡ cut count (messages_from s k n)) × StaysApart s (node_keys_from s k n) (slots.with_value s k (record node { message = m })) (node_keys_from (slots.with_value s k (record node { message = m })) k n)
   shortened p long = by n p long where
     by : (n : ℕ) → IsPath s l k n → count < option_map_or (λ m. length m.bytes) (slice_get (messages_from s k n) 0) 0
-        → IsPath (slots.with_value s k (record node { message = m })) l k n × (messages_from (slots.with_value s k (record node { message = m })) k n ≡ cut count (messages_from s k n)) × StaysApart s (keys_from s k n) (slots.with_value s k (record node { message = m })) (keys_from (slots.with_value s k (record node { message = m })) k n)
+        → IsPath (slots.with_value s k (record node { message = m })) l k n × (messages_from (slots.with_value s k (record node { message = m })) k n ≡ cut count (messages_from s k n)) × StaysApart s (node_keys_from s k n) (slots.with_value s k (record node { message = m })) (node_keys_from (slots.with_value s k (record node { message = m })) k n)
     by zero p long = absurd (omega (arith, long))
     by (suc n) p long =
         let same : p.0 ≡ node = some_same p.0 node (sym p.1.0 ∙ at) in
@@ -338,7 +338,7 @@ path_within s l k (suc n) p = subst AreWithin (sym (first_there s k n p.0 p.1.0)
 -- Where the nodes that are not of the queue c stay, so does a queue apart from it.
 module _ (s t : Slab Node) (c d o : Chain) (same : SameElsewhere s c t d) (apart : AreApart s o c) (h : IsChain s o) where
   -- Its nodes stay.
-  other_nodes : KeepsKeys s t (keys_of s o)
+  other_nodes : KeepsKeys s t (node_keys s o)
   other_nodes q among = let there = node_there s o.last q o.first o.len h.path among in (same q there.0 there.1 (apart q among)).0 ∙ sym there.1
 
   -- It has the same messages.
@@ -369,7 +369,7 @@ apart_both s c d apart q among = by (has_node s c q) refl where
 
 -- A queue without messages is apart from each.
 pub none_apart : (s : Slab Node) (c d : Chain) → c.len ≡ 0 → AreApart s c d
-none_apart s c d e q among = absurd (true≢false (sym among ∙ ap (λ n. list_any (nat_eq q) (keys_from s c.first n)) e))
+none_apart s c d e q among = absurd (true≢false (sym among ∙ ap (λ n. list_any (nat_eq q) (node_keys_from s c.first n)) e))
 
 -- Where all nodes stay, so does a queue.
 pub same_queue : (s t : Slab Node) (c : Chain) → SameValues s t → IsChain s c → IsChain t c × (messages_of t c ≡ messages_of s c)

@@ -17,9 +17,9 @@ abbrev pub next_at : Slab Node → ℕ → ℕ
 next_at s k = option_map_or (λ x. x.next) (slots.get s k) 0
 
 -- The keys of n nodes from this one on.
-abbrev pub keys_from : Slab Node → ℕ → ℕ → List ℕ
-keys_from s k zero = []
-keys_from s k (suc n) = k ∷ keys_from s (next_at s k) n
+abbrev pub node_keys_from : Slab Node → ℕ → ℕ → List ℕ
+node_keys_from s k zero = []
+node_keys_from s k (suc n) = k ∷ node_keys_from s (next_at s k) n
 
 -- The messages of n nodes from this one on.
 abbrev pub messages_from : Slab Node → ℕ → ℕ → List Message
@@ -28,8 +28,8 @@ messages_from s k (suc n) =
     option_map_or (λ x. x.message ∷ messages_from s x.next n) (slots.get s k) []
 
 -- The keys of a queue's nodes.
-abbrev pub keys_of : Slab Node → Chain → List ℕ
-keys_of s c = keys_from s c.first c.len
+abbrev pub node_keys : Slab Node → Chain → List ℕ
+node_keys s c = node_keys_from s c.first c.len
 
 -- The messages of a queue, first in, first out.
 abbrev pub messages_of : Slab Node → Chain → List Message
@@ -41,7 +41,7 @@ abbrev pub IsPath : Slab Node → ℕ → ℕ → ℕ → Type 0
 IsPath s l k zero = k ≡ k
 IsPath s l k (suc n) =
     (x : Node) × ((slots.get s k ≡ Some x)
-    × (list_any (nat_eq k) (keys_from s x.next n) ≡ false) × (n ≡ zero → k ≡ l)
+    × (list_any (nat_eq k) (node_keys_from s x.next n) ≡ false) × (n ≡ zero → k ≡ l)
     × IsMessageWithin x.message × IsPath s l x.next n)
 
 -- The nodes of a queue, 64 at most, are linked. Its messages have attached files only if it says
@@ -53,7 +53,7 @@ pub record IsChain (s : Slab Node) (c : Chain) : Type 0 where
 
 -- Whether the node at this key is one of the queue's.
 abbrev pub has_node : Slab Node → Chain → ℕ → Bool
-has_node s c q = list_any (nat_eq q) (keys_of s c)
+has_node s c q = list_any (nat_eq q) (node_keys s c)
 
 -- No node is of both queues.
 abbrev pub AreApart : Slab Node → Chain → Chain → Type 0
@@ -68,10 +68,10 @@ SameElsewhere s c t d = (q : ℕ) (x : Node) → slots.get s q ≡ Some x → ha
 abbrev pub KeepsNodes : Slab Node → Chain → Slab Node → Chain → Type 0
 KeepsNodes s c t d = slab_len t + c.len ≡ slab_len s + d.len
 
--- There is room for one node more, and a key of 32 bits.
+-- The slab has room for one node more, under a key of 32 bits.
 abbrev pub HasRoom : Slab Node → Type 0
 HasRoom s = HasRoomFor s 1 × (s.vacant_key < 2 ^ 32)
 
--- Whether there is.
+-- Whether the slab has room for one node more, under a key of 32 bits.
 abbrev pub has_room : Slab Node → Bool
 has_room s = nat_lt (slab_len s) s.capacity && nat_lt s.vacant_key (2 ^ 32)
