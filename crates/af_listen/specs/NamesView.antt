@@ -10,5 +10,5 @@ abbrev pub NamesView : Type 0
 NamesView = FinMap (slice_cmp nat_cmp) ℕ
 
 -- The map of these entries, by the bytes of their keys.
-abbrev pub named : List (Vec ℕ × ℕ) → NamesView
-named es = from_entries (map (λ e. (e.0.items, e.1)) es)
+abbrev pub names_of : List (Vec ℕ × ℕ) → NamesView
+names_of es = from_entries (map (λ e. (e.0.items, e.1)) es)

@@ -16,13 +16,13 @@ pub struct Names {
 impl Model for Names {
     ghost use Rattle.std.specs.FinMap as map;
     ghost use Rattle.std.specs.Coded.{codes};
-    ghost use Rattle.af_listen.specs.NamesView.{NamesView, named};
+    ghost use Rattle.af_listen.specs.NamesView.{NamesView, names_of};
 
     ghost Value = { NamesView };
 
     ghost coded = { Prim.hlevel (codes, map.code) };
 
-    ghost view = { λ a. named a.files.entries };
+    ghost view = { λ a. names_of a.files.entries };
 }
 
 impl Names {
