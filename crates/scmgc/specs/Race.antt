@@ -53,7 +53,7 @@ exit_of pid = event.Proc pid step.Exit
 abbrev pub exits_of : List Pair → List Event
 exits_of pairs = map exit_of (filter_map child_of pairs)
 
--- And of those that were forked from these seats.
+-- The exits of all children that were forked from these seats.
 abbrev pub all_exits_of : List SeatView → List Event
 all_exits_of seats = flat_map (λ s. exits_of s.list) seats
 
@@ -90,7 +90,8 @@ pub record RacedBy (Turns : ℕ → List Pair → Type 0) (workers steps seed : 
   pub turns : Turns steps (of_seat (workers + 1) b.log)
   pub main_thread : EndsInPass (spawned workers) (of_seat (workers + 2) b.log)
 
--- So it is of a race on one layer: the collector made its turns one after the other.
+-- The log of a race on one layer that ended well: the collector made its turns one after the
+-- other.
 abbrev pub Raced : ℕ → ℕ → ℕ → ℕ → BookView → Type 0
 Raced workers steps seed budget = RacedBy (Turned budget []) workers steps seed
 
@@ -100,7 +101,7 @@ pub data TurnedInParts (budget : ℕ) : ℕ → List Pair → Type 0 where
   OnePart : (n m : ℕ) → (before part : List Pair) → TurnedInParts budget n before
       → Turned budget [] m part → TurnedInParts budget (n + m) (before ++ part)
 
--- So it is of a race with checkpoints. Its log is what was taken at them, put together.
+-- The log of a race with checkpoints that ended well: what was taken at them, put together.
 abbrev pub RacedInParts : ℕ → ℕ → ℕ → ℕ → BookView → Type 0
 RacedInParts workers steps seed budget = RacedBy (TurnedInParts budget) workers steps seed
 
@@ -125,10 +126,10 @@ pub record TellsRace (Ended : BookView → Type 0) (workers steps : ℕ) (text :
   pub all_steps : worker_steps workers book.log ≡ workers * steps
   pub lines : text ≡ outcome_text workers book
 
--- So it is of a race on one layer.
+-- The text tells a race on one layer that ended well.
 abbrev pub RaceText : ℕ → ℕ → ℕ → ℕ → List ℕ → Type 0
 RaceText workers steps seed budget = TellsRace (Raced workers steps seed budget) workers steps
 
--- And of a race with checkpoints.
+-- The text tells a race with checkpoints that ended well.
 abbrev pub LongRaceText : ℕ → ℕ → ℕ → ℕ → List ℕ → Type 0
 LongRaceText workers steps seed budget = TellsRace (RacedInParts workers steps seed budget) workers steps

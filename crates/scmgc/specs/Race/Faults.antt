@@ -12,24 +12,25 @@ use Rattle.af_layer.specs.declared.layer.OpenError.TheVariants as open_error
 use Rattle.scmgc.specs.declared.race.fault.RaceFault.{RaceFault}
 use Rattle.scmgc.specs.declared.race.fault.RaceFault.TheVariants.{Failed, Memory}
 
--- Of a layer that was not opened.
+-- The fault of a race whose layer was not opened.
 abbrev pub of_open : OpenError → RaceFault
 of_open open_error.NoRoom = Memory
 of_open open_error.BadCount = Failed
 
--- Of a call that did nothing.
+-- The fault of a race in which a call did nothing.
 abbrev pub of_call : CallError → RaceFault
 of_call call.NoRoom = Memory
 of_call call.NoSeat = Failed
 of_call call.LogFull = Failed
 
--- Of a drive that did not do all.
+-- The fault of a race in which a drive did not do all.
 abbrev pub of_drive : DriveFault → RaceFault
 of_drive drive.NoRoom = Memory
 of_drive drive.TooFewSeats = Failed
 of_drive (drive.Call seat error) = of_call error
 
--- Of an answer to the start of a process, which is not the pid that it should have.
+-- The fault of a race in which the start of a process was not answered by the pid that it should
+-- have.
 abbrev pub of_spawn : Reply → RaceFault
 of_spawn (reply.Refused ENOMEM) = Memory
 of_spawn other = Failed

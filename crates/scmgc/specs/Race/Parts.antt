@@ -15,7 +15,7 @@ pub record SeatsHave (n : ℕ) (P : ℕ → List Pair → Type 0) (seats : List 
   pub numbers : (i : ℕ) → i < n → number_at seats i ≡ i + 1
   pub lists : (i : ℕ) → i < n → P i (list_at seats i)
 
--- Their lists are empty.
+-- There are n seats in order, numbered from 1, and their lists are empty.
 abbrev pub AreFresh : ℕ → List SeatView → Type 0
 AreFresh n = SeatsHave n (λ i list. list ≡ [])
 

@@ -9,7 +9,7 @@ use Rattle.af_base.specs.declared.events.Event.TheVariants as event
 use Rattle.rand_core.specs.Steps.{first_words}
 use Rattle.rand_xoshiro.specs.SplitMix64.{splitmix_seed}
 use Rattle.rand_xoshiro.specs.Xoshiro256.{jump, jump_polynomial, of_seed, plus_plus}
-use Rattle.scmgc.specs.Race.Table.{event_of_word, name_of}
+use Rattle.scmgc.specs.Race.Table.{event_of_word, listener_name}
 
 -- The type of a worker's listener: a stream where the worker's number is odd.
 abbrev pub listener_type : ℕ → SockType
@@ -19,7 +19,7 @@ listener_type worker = if worker % 2 == 1 then Stream else Seqpacket
 abbrev pub opening_steps : ℕ → List Step
 opening_steps worker =
     step.Socket (listener_type worker)
-    ∷ step.Bind 0 (name_of worker)
+    ∷ step.Bind 0 (listener_name worker)
     ∷ step.Listen 0 8
     ∷ step.Pair Seqpacket ∷ []
 

@@ -12,7 +12,8 @@ unfoldable pub words_in : ℕ → Stream → List ℕ
 words_in zero s = []
 words_in (suc n) s = (next_u64 s).0 ∷ words_in n (next_u64 s).1
 
--- Of the opening what was not made, an event for each word that is still to be drawn, and the exit.
+-- The events that are left: what was not made of the opening, an event for each word that is still
+-- to be drawn, and the exit.
 abbrev pub rest_of : ℕ → ℕ → ℕ → ℕ → Bool → Stream → List Event
 rest_of worker workers opened words ended stream =
     drop opened (opening_of worker)

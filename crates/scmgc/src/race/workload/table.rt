@@ -1,7 +1,7 @@
 //! The table that turns a word of the generator into an event.
 ghost use Rattle.std.specs.Prelude.{◌≡◌, ◌<◌, ◌≤◌, IfOk};
-ghost use Rattle.scmgc.specs.Race.Table.{attached_of, event_of_word, name_of, part, step_of_word};
-ghost use Rattle.scmgc.specs.Race.Table.{type_of};
+ghost use Rattle.scmgc.specs.Race.Table.{drawn_attached, drawn_type, event_of_word, listener_name};
+ghost use Rattle.scmgc.specs.Race.Table.{step_of_word, word_part};
 
 use af_base::events::{Event, SockType, Step};
 use af_base::ids::{Fd, Pid};
@@ -27,14 +27,14 @@ const RECEIVED_FDS: u32 = 4;
 fn part(word: u64, bit: u32, below: u32) -> u32
     requires bit { bit < 64 }
     requires below { 0 < below }
-    ensures { result ≡ part word bit below }
+    ensures { result ≡ word_part word bit below }
 {
     ((word >> bit) % u64::from(below)) as u32
 }
 
 /// Returns the socket type of a number: a stream if it is even.
 fn type_of(number: u32) -> SockType
-    ensures { result ≡ type_of number }
+    ensures { result ≡ drawn_type number }
 {
     if number % 2 == 0 {
         SockType::Stream
@@ -45,14 +45,14 @@ fn type_of(number: u32) -> SockType
 
 /// Makes the abstract name of a worker's listener (unix(7)): `w` and the worker's number.
 pub fn listener_name(alloc: Global, worker: u32) -> Result<Bytes, AllocError>
-    ensures { IfOk result (λ name. name ≡ name_of worker) }
+    ensures { IfOk result (λ name. name ≡ listener_name worker) }
 {
     Ok(Items::of(format!(in alloc; "w{worker}")?.into_bytes()))
 }
 
 /// Makes the list of a message's descriptors.
 fn attached(alloc: Global, extra: u32, first: Fd, second: Fd) -> Result<Fds, AllocError>
-    ensures { IfOk result (λ fds. fds ≡ attached_of extra first second) }
+    ensures { IfOk result (λ fds. fds ≡ drawn_attached extra first second) }
 {
     let fds = match extra {
         0..=3 => vec![in alloc; first]?,
