@@ -22,6 +22,16 @@ static void move_fd(const struct process *process, uint32_t fd, long to) {
     close_fd(process, fd);
 }
 
+/* Whether the kernel has this file at that number too, as far as it is known to unixbox. */
+static bool is_there(const struct process *process, uint32_t fd, const struct file *file) {
+    char name[16];
+    struct stat there, here;
+    sprintf(name, "%u", fd);
+    return file->host < 0 ||
+           (fstatat(dirfd(process->table), name, &there, 0) == 0 && fstat(file->host, &here) == 0 &&
+            there.st_dev == here.st_dev && there.st_ino == here.st_ino);
+}
+
 /* Opens in the layer what the program has opened by itself, and closes what an exec(2) has closed.
  * All else that closes is served, so two tables with as many descriptors are the same. */
 void sync_table(struct process *process) {
@@ -35,16 +45,19 @@ void sync_table(struct process *process) {
         count++;
     while (fstat(dirfd(process->table), &table) == 0 && table.st_size > count && looks-- > 0)
         usleep(LOOK_MICROSECONDS);
-    if (table.st_size == count && !process->has_changed) return;
-    if (process->has_changed) read_status(process->tgid, &process->status);
+    bool has_changed = process->has_changed;
+    if (table.st_size == count && !has_changed) return;
+    if (has_changed) read_status(process->tgid, &process->status);
     process->has_changed = false;
     rewinddir(process->table);
     for (struct dirent *it; (it = readdir(process->table)) != NULL;)
         if (it->d_name[0] != '.') is_open[atoi(it->d_name) % JW_MAX_NOFILE] = true;
     for (uint32_t fd = 0; fd < JW_MAX_NOFILE; fd++) {
-        bool is_known = file_of(process, fd) != NULL;
-        if (is_known && !is_open[fd]) close_fd(process, fd);
-        if (is_known || !is_open[fd]) continue;
+        const struct file *file = file_of(process, fd);
+        bool is_same = file != NULL && is_open[fd] &&
+                       (!has_changed || is_there(process, fd, file));
+        if (file != NULL && !is_same) close_fd(process, fd);
+        if (is_same || !is_open[fd]) continue;
         long lowest = record(process->pid, jw_open(&engine, process->pid), "open");
         if (lowest >= 0) move_fd(process, (uint32_t)lowest, fd);
     }

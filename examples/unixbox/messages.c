@@ -96,8 +96,12 @@ static long read_control(const struct call *call) {
     return is_own || geteuid() == 0 ? 0 : -EPERM;
 }
 
-/* Copies the plain files that a message sends, for its receiver. */
-static long copy_files(const struct process *process) {
+/* Copies the plain files that a message sends, for its receiver. A file that is not known was opened
+ * beside a close(2) of another thread, so that the tables had as many descriptors. */
+static long copy_files(struct process *process) {
+    for (size_t i = 0; i < message.fd_count && !process->has_changed; i++)
+        process->has_changed = file_of(process, message.fds[i]) == NULL;
+    if (process->has_changed) sync_table(process);
     for (size_t i = 0; i < message.fd_count; i++) {
         struct file *file = file_of(process, message.fds[i]);
         if (file == NULL || file->host >= 0) continue; /* The layer refuses what is not open. */

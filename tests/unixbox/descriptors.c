@@ -198,7 +198,7 @@ static void recv_both(int on, int *fds) {
     memcpy(fds, CMSG_DATA(CMSG_FIRSTHDR(&message)), 2 * sizeof *fds);
 }
 
-/* One thread passes pairs of sockets, while another opens and closes files. */
+/* One thread passes pairs of sockets and files, while another opens and closes files. */
 static const char *check_threads(int type) {
     pthread_t other;
     is_over = false;
@@ -211,12 +211,14 @@ static const char *check_threads(int type) {
         close_both(pair);
         recv_both(way[1], passed);
         MUST(write(passed[0], "x", 1) == 1 && read(passed[1], &byte, 1) == 1 && byte == 'x');
+        int file = open("/dev/null", O_RDONLY);
+        MUST(send_fds(way[0], &file, 1) == 0 && close(file) == 0 && close(recv_fd(way[1])) == 0);
         close_both(passed);
         close_both(way);
     }
     is_over = true;
     MUST(pthread_join(other, NULL) == 0);
-    return "pairs of sockets pass while another thread opens files";
+    return "sockets and files pass while another thread opens files";
 }
 
 static const struct {

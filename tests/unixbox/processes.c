@@ -132,6 +132,21 @@ static const char *check_exec(void) {
     return "a receive ends with its thread, and takes nothing from the next program";
 }
 
+/* A number that an exec(2) has closed is that of the first file of the next program. */
+static const char *check_loader(void) {
+    char *paths = "LD_LIBRARY_PATH=/lib/x86_64-linux-gnu:/usr/lib/x86_64-linux-gnu:/lib64:/usr/lib64";
+    MUST(socketpair(AF_UNIX, SOCK_STREAM | SOCK_CLOEXEC, 0, way) == 0);
+    MUST(write(way[0], "no library", 10) == 10 && write(way[1], "no library", 10) == 10);
+    pid_t child = fork();
+    if (child == 0) {
+        execle("/bin/true", "true", NULL, (char *[]){paths, NULL});
+        _exit(1);
+    }
+    must_exit(child);
+    MUST(close(way[0]) == 0 && close(way[1]) == 0);
+    return "a program is loaded by a number that exec has closed";
+}
+
 int main(void) {
     setvbuf(stdout, NULL, _IOLBF, 0); /* No child inherits a line. */
     printf("children: %s\n", check_children());
@@ -139,5 +154,6 @@ int main(void) {
     printf("name: %s\n", check_name());
     printf("signal: %s\n", check_signal());
     printf("exec: %s\n", check_exec());
+    printf("loader: %s\n", check_loader());
     return 0;
 }
