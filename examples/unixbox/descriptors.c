@@ -63,6 +63,17 @@ void sync_table(struct process *process) {
     }
 }
 
+/* Returns a file of the table as it is now. Where a close(2) of another thread is not done yet, the
+ * tables may have as many descriptors, but not the same. */
+struct file *sync_file(struct process *process, uint64_t fd) {
+    sync_table(process);
+    struct file *file = file_of(process, fd);
+    if (file != NULL) return file;
+    process->has_changed = true;
+    sync_table(process);
+    return file_of(process, fd);
+}
+
 /* Returns the lowest number from here on that is free in the layer. */
 static uint32_t lowest_free(const struct process *process, uint64_t from) {
     while (from < JW_MAX_NOFILE && file_of(process, from) != NULL) from++;
@@ -123,8 +134,7 @@ long serve_dup(struct call *call) {
                                    : is_dup3 && (call->args[2] & O_CLOEXEC);
     uint64_t from = is_fcntl ? call->args[2] : 0, to = call->args[1];
     if (is_fcntl && !closes_on_exec && call->args[1] != F_DUPFD) return KERNEL_DOES_IT;
-    sync_table(call->process);
-    struct file *file = file_of(call->process, call->fd);
+    struct file *file = sync_file(call->process, call->fd);
     if (file == NULL || (is_fixed && (call->fd == to || to >= JW_MAX_NOFILE)) ||
         (is_dup3 && (call->args[2] & ~(uint64_t)O_CLOEXEC)))
         return KERNEL_DOES_IT;

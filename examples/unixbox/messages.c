@@ -96,14 +96,10 @@ static long read_control(const struct call *call) {
     return is_own || geteuid() == 0 ? 0 : -EPERM;
 }
 
-/* Copies the plain files that a message sends, for its receiver. A file that is not known was opened
- * beside a close(2) of another thread, so that the tables had as many descriptors. */
+/* Copies the plain files that a message sends, for its receiver. */
 static long copy_files(struct process *process) {
-    for (size_t i = 0; i < message.fd_count && !process->has_changed; i++)
-        process->has_changed = file_of(process, message.fds[i]) == NULL;
-    if (process->has_changed) sync_table(process);
     for (size_t i = 0; i < message.fd_count; i++) {
-        struct file *file = file_of(process, message.fds[i]);
+        struct file *file = sync_file(process, message.fds[i]);
         if (file == NULL || file->host >= 0) continue; /* The layer refuses what is not open. */
         file->host = (int)syscall(SYS_pidfd_getfd, process->pidfd, message.fds[i], 0);
         if (file->host < 0) return errno == EMFILE ? -ENFILE : -errno;
@@ -123,7 +119,6 @@ long serve_send(struct call *call) {
     if (message.total > JW_MAX_BYTES && !is_stream) return -EMSGSIZE;
     call->raises_sigpipe = is_stream && !(message.flags & MSG_NOSIGNAL);
     if ((call->file->shut & 2) || (peer != NULL && (peer->shut & 1))) return -EPIPE;
-    if (message.fd_count > 0) sync_table(process);
     result = copy_files(process);
     if (result < 0) return result;
     if (message.fd_count + message.total == 0 && is_stream) /* The layer has no such message. */

@@ -140,6 +140,7 @@ long write_address(const struct call *call, uint64_t at, uint64_t length_at,
                    const struct address *address);
 
 void sync_table(struct process *process);
+struct file *sync_file(struct process *process, uint64_t fd);
 long install(struct call *call, uint32_t *fds, size_t count, bool closes_on_exec);
 
 typedef long handler(struct call *call);

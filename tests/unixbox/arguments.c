@@ -68,7 +68,8 @@ static const char *check_limit(void) {
     int pair[2];
     pid_t child = fork();
     if (child == 0) {
-        MUST(syscall(SYS_prlimit64, 0, RLIMIT_NOFILE, &(struct rlimit){LIMIT, LIMIT - 1}, NULL) < 0);
+        struct rlimit limit = {LIMIT, LIMIT - 1};
+        MUST(syscall(SYS_prlimit64, 0, RLIMIT_NOFILE, &limit, NULL) < 0 && errno == EINVAL);
         for (int i = 0; i < PAIRS; i++)
             make_pair(pair);
         _exit(0);

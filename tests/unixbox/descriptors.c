@@ -213,6 +213,8 @@ static const char *check_threads(int type) {
         MUST(write(passed[0], "x", 1) == 1 && read(passed[1], &byte, 1) == 1 && byte == 'x');
         int file = open("/dev/null", O_RDONLY);
         MUST(send_fds(way[0], &file, 1) == 0 && close(file) == 0 && close(recv_fd(way[1])) == 0);
+        MUST((file = open("/dev/null", O_RDONLY)) >= 0 && dup2(file, passed[0]) == passed[0]);
+        MUST(read(passed[1], &byte, 1) == 0 && close(file) == 0);
         close_both(passed);
         close_both(way);
     }

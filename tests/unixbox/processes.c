@@ -134,7 +134,7 @@ static const char *check_exec(void) {
 
 /* A number that an exec(2) has closed is that of the first file of the next program. */
 static const char *check_loader(void) {
-    char *paths = "LD_LIBRARY_PATH=/lib/x86_64-linux-gnu:/usr/lib/x86_64-linux-gnu:/lib64:/usr/lib64";
+    char *paths = "LD_LIBRARY_PATH=/lib/x86_64-linux-gnu:/usr/lib/x86_64-linux-gnu:/lib64";
     MUST(socketpair(AF_UNIX, SOCK_STREAM | SOCK_CLOEXEC, 0, way) == 0);
     MUST(write(way[0], "no library", 10) == 10 && write(way[1], "no library", 10) == 10);
     pid_t child = fork();
