@@ -31,7 +31,7 @@ use Rattle.af_mark.proofs.Colors.{color_after, color_get, color_white, color_wit
 use Rattle.af_mark.proofs.Whites.{adds-grey, adds-white, none-bound, white-beyond, white-mark, whites-gone, whites-most, whites-put}
 use Rattle.af_mark.proofs.GreyList.{listed-born, listed-gone, listed-same, grey-known, listed-bare, listed-black, listed-grey, white-known}
 use Rattle.af_desc.specs.FilesView.{AreEmbryos, with_embryo, without_embryo, AreWhite, FilesInvariant, AreNamed, FilesView, entered, name_of, without}
-use Rattle.af_desc.specs.TrackedTableView.{is_white_in, TrackedTableView, with_row, without_row, is_due}
+use Rattle.af_desc.specs.FileTableView.{is_white_in, FileTableView, with_row, without_row, is_due}
 use Rattle.af_desc.proofs.FirstNumber.{begun-made, begun-removed}
 use Rattle.af_desc.proofs.FileNames.{named-changed, named-new}
 use Rattle.ordered_slab.proofs.Parts.{part_many}
@@ -189,7 +189,7 @@ first-place (Queue u) None e = refl
 first-place Backlog None e = refl
 first-place p (Some c) e = absurd (false≢true (sym e))
 
-module _ {embryos bound white : ℕ} (old new : TrackedTableView) (ws : List ℕ) (room : ℕ) (names : NamesView) (next epoch : ℕ) (grey : List ℕ) (most : ℕ) (h : FilesInvariant old ws room names next epoch grey most embryos bound white) where
+module _ {embryos bound white : ℕ} (old new : FileTableView) (ws : List ℕ) (room : ℕ) (names : NamesView) (next epoch : ℕ) (grey : List ℕ) (most : ℕ) (h : FilesInvariant old ws room names next epoch grey most embryos bound white) where
   -- More room changes nothing.
   pub filed-reserved : (vs : List ℕ) (space : ℕ) (gs : List ℕ) (wide : ℕ) → new ≡ record old { room = new.room; space = new.space } → vs ≡ ws → room ≤ space → gs ≡ grey → most ≤ wide → new.space ≤ space → new.space ≤ wide → FilesInvariant new vs space names next epoch gs wide embryos bound white
   filed-reserved vs space gs wide is unreferenced more greys wider few least = let low = h.last in let fits = h.fits in record {
@@ -270,22 +270,22 @@ module _ {embryos bound white : ℕ} (old new : TrackedTableView) (ws : List ℕ
 -- The view of rows in a pass, with this bound and this next number.
 module _ (epoch bound : ℕ) where
   -- The files that these rows show.
-  abbrev pub seen : TrackedTableView → ℕ → FilesView
+  abbrev pub seen : FileTableView → ℕ → FilesView
   seen r next = record { files = r.files; counts = r.counts; marks = record { colors = colors_in epoch r.marks; bound = bound }; since = r.since; next = next; message_room = r.message_room }
 
   -- Of a file more.
-  pub seen-entered : (p : Place) (r : TrackedTableView) (next room : ℕ) (x : File) → seen (with_row next x p room r) (next + 1) ≡ entered p x (seen r next)
+  pub seen-entered : (p : Place) (r : FileTableView) (next room : ℕ) (x : File) → seen (with_row next x p room r) (next + 1) ≡ entered p x (seen r next)
   seen-entered p r next room x =
       let colors = color_after epoch r.marks _ next unmarked White refl (color_white epoch unmarked refl) in
       ap {B = FilesView} (λ cs. record (entered p x (seen r next)) { marks = record { colors = cs; bound = bound } }) colors
 
   -- And of one less.
-  pub seen-without : (r : TrackedTableView) (next room space f : ℕ) → seen (without_row f room space r) next ≡ without f (seen r next)
+  pub seen-without : (r : FileTableView) (next room space f : ℕ) → seen (without_row f room space r) next ≡ without f (seen r next)
   seen-without r next room space f = ap {B = FilesView} (λ cs. record (without f (seen r next)) { marks = record { colors = cs; bound = bound } }) (color_without epoch r.marks _ f refl)
 
 -- ---- visits
 
-module _ (epoch bound : ℕ) (r : TrackedTableView) (f : ℕ) where
+module _ (epoch bound : ℕ) (r : FileTableView) (f : ℕ) where
   -- The marks that the rows show.
   abbrev now : MarksView
   now = record { colors = colors_in epoch r.marks; bound = bound }
@@ -351,11 +351,11 @@ module _ (epoch bound : ℕ) (r : TrackedTableView) (f : ℕ) where
     pub few-white : 0 < white
     few-white = (left-white (black_mark epoch) Black refl refl refl).0
 
-    module _ (new : TrackedTableView) (len : map.len new.marks ≡ map.len r.marks) where
+    module _ (new : FileTableView) (len : map.len new.marks ≡ map.len r.marks) where
       -- It is black, and no other list has it.
       pub filed-black : new ≡ record r { marks = map.insert r.marks f (black_mark epoch) } → FilesInvariant new unreferenced room names next epoch grey most embryos bound (white - 1)
       filed-black is =
-          let many = sym (ap (λ (r : TrackedTableView). map.len r.marks) is) ∙ len in
+          let many = sym (ap (λ (r : FileTableView). map.len r.marks) is) ∙ len in
           filed-marked r new _ _ _ _ _ _ _ h _ grey most is
           (listed-bare r.marks _ epoch grey most h.listed f (black_mark epoch) refl refl many refl (white-known now f (white-is ∙ was)).1) (omega arith) (white - 1) (left-white (black_mark epoch) Black refl refl refl).1
 
@@ -363,7 +363,7 @@ module _ (epoch bound : ℕ) (r : TrackedTableView) (f : ℕ) where
       pub filed-grey : new ≡ record r { marks = map.insert r.marks f (grey_mark epoch) }
           → (length grey < most) × ((gs : List ℕ) (wide : ℕ) → gs ≡ grey ++ f ∷ [] → most ≤ wide → FilesInvariant new unreferenced room names next epoch gs wide embryos bound (white - 1))
       filed-grey is =
-          let many = sym (ap (λ (r : TrackedTableView). map.len r.marks) is) ∙ len in
+          let many = sym (ap (λ (r : FileTableView). map.len r.marks) is) ∙ len in
           let listed = listed-grey r.marks _ epoch grey most h.listed f (grey_mark epoch) refl refl many refl (white-known now f (white-is ∙ was)).1 in (
             listed.0,
             λ gs wide same more.
@@ -391,9 +391,9 @@ module _ (epoch bound : ℕ) (r : TrackedTableView) (f : ℕ) where
     last-known = sym (color_known epoch r.marks f) ∙ grey-known now f last-grey
 
     -- It leaves the list, and is black.
-    pub filed-scanned : (new : TrackedTableView) (wide : ℕ) → new ≡ record r { marks = map.insert r.marks f (black_mark epoch) } → map.len new.marks ≡ map.len r.marks → most ≤ wide → FilesInvariant new unreferenced room names next epoch gs wide embryos bound white
+    pub filed-scanned : (new : FileTableView) (wide : ℕ) → new ≡ record r { marks = map.insert r.marks f (black_mark epoch) } → map.len new.marks ≡ map.len r.marks → most ≤ wide → FilesInvariant new unreferenced room names next epoch gs wide embryos bound white
     filed-scanned new wide is len more =
-        let many = sym (ap (λ (r : TrackedTableView). map.len r.marks) is) ∙ len in
+        let many = sym (ap (λ (r : FileTableView). map.len r.marks) is) ∙ len in
         filed-marked r new _ _ _ _ _ _ _ h _ gs wide is
         (listed-black r.marks _ epoch grey most h.listed f (black_mark epoch) refl refl many gs wide refl (λ g. omega (arith, once g)) more) more white
         (white-scanned r.marks _ epoch bound next white h.whites f (black_mark epoch) refl (color_now epoch (black_mark epoch) refl) last-grey)

@@ -1,7 +1,8 @@
 pub mod FirstNumber
 pub mod FileNames
-pub mod TrackedTableView
+pub mod FileTableView
 pub mod ToldLists
+pub mod FileTableInvariant
 pub mod ClearedMarks
 pub mod FilesInvariant
 pub mod SendSync

@@ -20,7 +20,7 @@ use Rattle.af_listen.specs.NamesView.{NamesView}
 use Rattle.af_mark.specs.Grey.{IsGreyList, colors_in, MarkView}
 use Rattle.af_mark.specs.MarksView.{MarksView, born, forgotten, is_unmarked, white_count}
 use Rattle.af_queue.specs.TakenView.{TakenView, received}
-use Rattle.af_desc.specs.TrackedTableView.{TrackedTableView}
+use Rattle.af_desc.specs.FileTableView.{FileTableView}
 
 -- The world's files, how many places hold each, what a pass knows of each, what there was when the
 -- lists were emptied last, the number that the next one gets, and whether there is room for a
@@ -167,7 +167,7 @@ AreWhite marks epoch bound next n = (bound ≤ next)
 -- Numbers begin at 1 and rise; the names are those of the files; one list has just the unreferenced
 -- files and one just the grey ones, with room for all, and for as many as the rows say; the embryos
 -- and the files that a pass has still to mark are at most the numbers kept.
-pub record FilesInvariant (rows : TrackedTableView) (unreferenced : List ℕ) (room : ℕ) (names : NamesView)
+pub record FilesInvariant (rows : FileTableView) (unreferenced : List ℕ) (room : ℕ) (names : NamesView)
     (next epoch : ℕ) (grey : List ℕ) (most embryos bound white : ℕ) : Type 0 where
   pub last : rows.last + 1 ≡ next
   pub begins : map.contains_key rows.files 0 ≡ false

@@ -3,5 +3,4 @@ pub mod FilesView
 pub mod FileTableView
 pub mod Holding
 pub mod Form
-pub mod TrackedTableView
 pub mod Told

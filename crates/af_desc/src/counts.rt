@@ -20,7 +20,7 @@ impl Files {
     fn count_at(&self, file: &FileRef) -> Count
         ensures { result ≡ count_in_map self.now.counts file.now }
     {
-        match self.rows.table.count(file) {
+        match self.rows.count(file) {
             Some(count) => count.duplicate(),
             None => Count::none(),
         }
@@ -31,7 +31,7 @@ impl Files {
     fn count(&self, ino: Ino) -> Count
         ensures { result ≡ count_in_map self.now.counts ino }
     {
-        match self.rows.table.find(ino) {
+        match self.rows.find(ino) {
             Some(file) => self.count_at(&file),
             None => Count::none(),
         }

@@ -1,6 +1,6 @@
 //! The row of one file.
 ghost use Rattle.std.specs.Prelude.{◌≡◌, ◌<◌, [], IfSome, IfNone, IfOk, OnOk, OnErr};
-ghost use Rattle.std.specs.Prelude.{None, false, is_none, length, nat_lt, true};
+ghost use Rattle.std.specs.Prelude.{None, false, is_none, length, true};
 ghost use Rattle.af_base.specs.Changes.{file_with, pushed};
 ghost use Rattle.af_base.specs.Places.{backlog_of, contents, queue_of};
 ghost use Rattle.af_base.specs.Refusals.{socket_of};
@@ -9,9 +9,10 @@ ghost use Rattle.af_queue.specs.Chains.{has_room, messages_of, IsChain, SameElse
 ghost use Rattle.af_queue.specs.TakenView.{nothing_received};
 ghost use Rattle.af_desc.specs.FilesView.{IsFirst, name_of, popped, received_from, received_of};
 ghost use Rattle.af_desc.specs.Holding.{IsContents, IsPopped, without_popped};
-ghost use Rattle.af_desc.specs.TrackedTableView.{file_in, socket_of_row};
+ghost use Rattle.af_desc.specs.FileTableView.{file_in, socket_of_row};
 
 use crate::contents::{Contents, Popped};
+use crate::dirty_mark::DirtyMark;
 use crate::socket::{FileKind, Socket};
 use af_base::ids::Uid;
 use af_base::limits::MAX_MESSAGES;
@@ -31,9 +32,8 @@ pub struct FileRow {
     pub kind: FileKind,
     /// The messages of its queue.
     pub chain: Chain,
-    /// Its position in the list of those whose readiness may have changed, counted from 1: a hint.
-    /// It is 0 where the file is not in that list.
-    pub dirty_at: u32,
+    /// Whether it is in the list of sockets whose readiness may have changed.
+    pub dirty: DirtyMark,
     /// Its colour in a pass of the collector.
     pub mark: Mark,
 }
@@ -87,41 +87,6 @@ impl FileRow {
         match self.socket(nodes) {
             Some(socket) => socket.is_nameless() && socket.queue().len() == 0,
             None => true,
-        }
-    }
-
-    /// Returns whether it is dirty.
-    #[inline(always)]
-    pub fn is_dirty(&self) -> bool
-        ensures { result ≡ nat_lt 0 self.now.dirty_at }
-    {
-        self.dirty_at > 0
-    }
-
-    /// Records whether it is dirty: its readiness may have changed. A dirty file has the first
-    /// position in the list of dirty files until `set_list_index` sets another.
-    #[inline(always)]
-    pub fn set_dirty(&mut self, dirty: bool)
-        ensures dirty { nat_lt 0 self.new.dirty_at ≡ dirty }
-        ensures rest { self.new ≡ record self.old { dirty_at = self.new.dirty_at } }
-    {
-        self.dirty_at = u32::from(dirty);
-    }
-
-    /// Returns its position in the list of dirty files: a hint.
-    #[inline(always)]
-    pub fn list_index(&self) -> usize {
-        self.dirty_at.saturating_sub(1) as usize
-    }
-
-    /// Sets its position in that list, if it is dirty. Does not change whether it is.
-    #[inline(always)]
-    pub fn set_list_index(&mut self, index: u32)
-        ensures dirty { nat_lt 0 self.new.dirty_at ≡ nat_lt 0 self.old.dirty_at }
-        ensures rest { self.new ≡ record self.old { dirty_at = self.new.dirty_at } }
-    {
-        if self.dirty_at > 0 {
-            self.dirty_at = index.saturating_add(1);
         }
     }
 

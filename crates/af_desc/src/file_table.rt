@@ -1,28 +1,29 @@
-//! One row for each file.
-ghost use Rattle.std.specs.Prelude.{◌≡◌, ℕ, ◌+◌, ◌≤◌, ◌<◌, ◌∷◌, [], false, None, IsTrue, IsOk};
-ghost use Rattle.std.specs.Prelude.{Some, IfSome, IfNone, IfErr, IfOk, OnOk, OnErr, drop, is_none};
-ghost use Rattle.std.specs.Prelude.{if◌then◌else◌, is_some, length, nat_eq, option_copied, true};
+//! The rows of all files, with the lists of freed files and changed sockets.
+ghost use Rattle.std.specs.Prelude.{◌≡◌, ℕ, ◌+◌, ◌≤◌, ◌<◌, ◌∷◌, [], true, false, None, IsTrue};
+ghost use Rattle.std.specs.Prelude.{IsOk, IfSome, IfNone, IfErr, IfOk, OnOk, OnErr, drop, is_none};
+ghost use Rattle.std.specs.Prelude.{if◌then◌else◌, is_some, length, nat_eq, option_copied, Some};
 ghost use Rattle.std.specs.FinMap as map;
-ghost use Rattle.std.specs.Option.{option_map_or};
 ghost use Rattle.af_base.specs.Changes.{connected, dequeued, listening, pushed, queued, with_name};
 ghost use Rattle.af_base.specs.Places.{backlog_in, held_in, queue_in};
 ghost use Rattle.af_base.specs.Refusals.{room_of};
+ghost use Rattle.af_base.specs.Told.{AreChanged, AreReleased};
 ghost use Rattle.af_base.specs.Whole.{IsMessageWithin};
+ghost use Rattle.af_base.specs.World.{untold};
 ghost use Rattle.af_ledger.specs.Counted.{fewer, more, places_in, IsCountable, IsCounted};
 ghost use Rattle.af_ledger.specs.Tally.{count_in_map};
 ghost use Rattle.af_ledger.specs.declared.place.Place.TheVariants.{Table};
 ghost use Rattle.af_desc.specs.FilesView.{hung_up, name_in, received_from};
 ghost use Rattle.af_desc.specs.FilesView.{received_of, socket_in};
-ghost use Rattle.af_desc.specs.FileTableView.{with_entry, with_socket, with_socket_and_room};
-ghost use Rattle.af_desc.specs.FileTableView.{without_entry};
+ghost use Rattle.af_desc.specs.FileTableView.{file_of, is_due, is_white_in, with_row};
+ghost use Rattle.af_desc.specs.FileTableView.{with_socket, with_socket_and_room, without_row};
 ghost use Rattle.af_desc.specs.Holding.{IsContents, IsPopped, without_popped};
-ghost use Rattle.af_desc.specs.TrackedTableView.{file_of, is_due, is_white_in};
 ghost use Rattle.af_mark.specs.Grey.{black_mark, grey_mark};
 ghost use Rattle.af_queue.specs.TakenView.{nothing_received};
 
 use crate::contents::{Contents, Popped};
 use crate::file_row::FileRow;
 use crate::socket::{FileKind, Socket};
+use crate::told_lists::ToldLists;
 use af_base::ids::{FileRef, Ino, Uid};
 use af_base::items::Bytes;
 use af_base::limits::{MAX_INO, MAX_MESSAGES};
@@ -33,22 +34,35 @@ use ordered_slab::OrderedSlab;
 use slab::Slab;
 use std::alloc::{AllocError, Global};
 use std::marker::Model;
+use std::snapshot::Snapshot;
 
 /// A row for each file: what it is, its queue, its count, its mark, and whether it is dirty. All
-/// rows are in one table, and all messages in another; a contract sees them as four maps.
+/// rows are in one table, and all messages in another. Where a program asks for them, the freed
+/// files and the changed sockets are listed. A contract sees the rows as three maps, and the files
+/// when the lists were emptied last in place of the lists.
 #[derive(Drop)]
 pub struct FileTable {
     rows: OrderedSlab<FileRow>,
     /// The messages of all queues.
     nodes: Slab<Node>,
+    /// The lists of freed files and changed sockets.
+    told: ToldLists,
+    /// For how many files more there is room, in the rows and in each list of files that is kept.
+    /// It falls with each file that is made, and to 0 where a list is asked for; `reserve` counts
+    /// it anew.
+    room: usize,
+    /// The rows and the messages when the lists were emptied last: for contracts alone.
+    since_rows: Snapshot<OrderedSlab<FileRow>>,
+    since_nodes: Snapshot<Slab<Node>>,
 }
 
 impl Model for FileTable {
     ghost use Rattle.std.specs.FinMap as map;
     ghost use Rattle.std.specs.Coded.{codes};
+    ghost use Rattle.std.specs.Prelude.{◌+◌};
     ghost use Rattle.af_queue.specs.Chains.{has_room};
-    ghost use Rattle.af_desc.specs.FileTableView.{FileTableView, dirty_of};
-    ghost use Rattle.af_desc.specs.TrackedTableView.{counts_of, files_of, marks_of, AreChained};
+    ghost use Rattle.af_desc.specs.FileTableView.{FileTableView, counts_of, files_of, marks_of};
+    ghost use Rattle.af_desc.specs.Told.{since_of, FileTableInvariant};
 
     ghost Value = { FileTableView };
 
@@ -58,109 +72,151 @@ impl Model for FileTable {
       files = files_of a.nodes a.rows.values;
       counts = counts_of a.rows.values;
       marks = marks_of a.rows.values;
-      dirty = dirty_of a.rows.values;
+      since = since_of a.told (files_of a.since_nodes.value a.since_rows.value.values)
+          (a.since_rows.value.last + 1);
       last = a.rows.last;
-      room = a.rows.room;
+      room = a.room;
+      space = a.told.space;
       message_room = has_room a.nodes;
     } };
 
-    ghost invariant = { λ a. AreChained a.nodes a.rows.values };
+    ghost invariant = { λ a. FileTableInvariant a.nodes a.rows a.told
+        (files_of a.since_nodes.value a.since_rows.value.values) (a.since_rows.value.last + 1)
+        a.room };
 }
 
 impl FileTable {
     /// Makes an empty table. Takes no memory.
-    #[tactic(auto, using(crate::proofs::TrackedTableView::chains, ordered_slab::proofs::Parts::parts))]
+    #[tactic(auto, using(crate::proofs::FileTableView::chains, ordered_slab::proofs::Parts::parts))]
     pub fn new(alloc: Global) -> FileTable
         ensures files { result.files ≡ map.empty }
         ensures counts { result.counts ≡ map.empty }
         ensures marks { result.marks ≡ map.empty }
-        ensures dirty { result.dirty ≡ map.empty }
+        ensures since { result.since ≡ untold }
         ensures last { result.last ≡ 0 }
+        ensures space { result.space ≡ 0 }
     {
+        let rows = OrderedSlab::new(alloc);
+        let nodes = Slab::new(alloc);
         FileTable {
-            rows: OrderedSlab::new(alloc),
-            nodes: Slab::new(alloc),
+            since_rows: Snapshot::of(&rows),
+            since_nodes: Snapshot::of(&nodes),
+            rows,
+            nodes,
+            told: ToldLists::new(alloc),
+            room: 0,
         }
     }
 
     /// Returns how many rows there are.
     #[inline(always)]
-    #[tactic(auto, using(crate::proofs::TrackedTableView::chains, ordered_slab::proofs::Parts::parts))]
+    #[tactic(auto, using(crate::proofs::FileTableView::chains, ordered_slab::proofs::Parts::parts))]
     pub fn len(&self) -> usize
         ensures files { result ≡ map.len self.now.files }
         ensures counts { result ≡ map.len self.now.counts }
         ensures marks { result ≡ map.len self.now.marks }
-        ensures dirty { result ≡ map.len self.now.dirty }
     {
         self.rows.len()
     }
 
-    /// Returns how many more rows there is room for.
-    #[tactic(auto, using(crate::proofs::TrackedTableView::chains))]
-    pub fn room(&self) -> usize
-        ensures { result ≡ self.now.room }
+    /// Returns for how many files in all each list of files has room.
+    #[inline(always)]
+    pub fn space(&self) -> usize
+        ensures { result ≡ self.now.space }
     {
-        self.rows.room()
+        self.told.space()
     }
 
-    /// Reserves room for this many rows more: then `push` needs no memory for them. Nothing else
-    /// changes, also on an error.
+    /// Returns for how many files more there is room, in the table and in each list of files.
     #[inline(always)]
-    #[tactic(auto, using(crate::proofs::TrackedTableView::chains))]
+    #[tactic(auto, using(ordered_slab::proofs::Parts::parts))]
+    pub fn room(&self) -> usize
+        ensures room { result ≡ self.now.room }
+        ensures counts { map.len self.now.counts + result ≤ self.now.space }
+        ensures marks { map.len self.now.marks + result ≤ self.now.space }
+    {
+        self.room
+    }
+
+    /// Reserves room for this many rows more, for which each list of files has room. Nothing else
+    /// changes, also on an error.
+    #[tactic(auto, using(ordered_slab::proofs::Parts::parts))]
     pub fn reserve(&mut self, rows: usize) -> Result<(), AllocError>
+        requires { map.len self.old.counts + rows ≤ self.old.space }
         ensures same { self.new ≡ record self.old { room = self.new.room } }
         ensures ok { OnOk result (rows ≤ self.new.room) }
         ensures room { self.old.room ≤ self.new.room }
         ensures succeeds { rows ≤ self.old.room → IsOk result }
     {
-        self.rows.reserve(rows)
+        self.rows.reserve(rows)?;
+        self.room = self.rows.room().min(self.told.space() - self.rows.len());
+        Ok(())
     }
 
-    /// Adds a file, under a number above all earlier ones, with an empty queue, unmarked, and with
-    /// this place as its first reference. There is room for it.
+    /// Reserves room for this many files in all in both lists, so far as they are kept. The other
+    /// lists of files have room for `most`. Nothing else changes, also on an error.
+    pub fn widen_lists(&mut self, all: usize, most: usize) -> Result<(), AllocError>
+        requires most { all ≤ most }
+        requires more { self.old.space ≤ all }
+        ensures same { self.new ≡ record self.old { space = self.new.space } }
+        ensures ok { OnOk result (all ≤ self.new.space) }
+        ensures most { OnOk result (self.new.space ≤ most) }
+        ensures err { OnErr result (self.new.space ≡ self.old.space) }
+    {
+        self.told.widen(all, most)
+    }
+
+    /// Adds a file, under the number after the last, with an empty queue, unmarked, and with this
+    /// place as its first reference. There is room for it, also in the lists.
     #[inline(always)]
-    #[tactic(auto, using(crate::proofs::TrackedTableView::chains, ordered_slab::proofs::Parts::parts))]
+    #[tactic(auto, using(crate::proofs::FileTableView::chains, ordered_slab::proofs::Parts::parts))]
     pub fn push(&mut self, ino: Ino, kind: FileKind, place: &Place) -> FileRef
         requires room { 0 < self.old.room }
-        requires above { self.old.last < ino }
+        requires next { ino ≡ self.old.last + 1 }
         requires number { ino ≤ MAX_INO }
         ensures file { result ≡ ino }
         ensures pushed { self.new
-            ≡ with_entry ino (file_of kind) place.now self.new.room self.old }
+            ≡ with_row ino (file_of kind) place.now self.new.room self.old }
         ensures new { map.contains_key self.old.files ino ≡ false }
         ensures uncounted { map.contains_key self.old.counts ino ≡ false }
         ensures unmarked { map.contains_key self.old.marks ino ≡ false }
-        ensures clean { map.contains_key self.old.dirty ino ≡ false }
         ensures room { self.old.room ≤ self.new.room + 1 }
     {
         kind.lemma_is_silent();
         let mut count = Count::none();
         count.add(place);
+        let dirty = self.told.mark_of_new(&kind);
+        let is_dirty = dirty.is_dirty();
         let row = FileRow {
             kind,
             chain: Chain::empty(),
-            dirty_at: 0,
+            dirty,
             count,
             mark: Mark::none(),
         };
-        self.rows.push(ino, row)
+        let file = self.rows.push(ino, row);
+        self.room -= 1;
+        self.told.add_new(is_dirty, &file);
+        file
     }
 
     /// Removes a file whose queue is empty, and returns what it was: a plain file, if it is unknown.
     /// Returns also whether it was known, and unmarked in this pass. Takes no memory.
     #[inline(always)]
-    #[tactic(auto, using(crate::proofs::TrackedTableView::chains, ordered_slab::proofs::Parts::parts))]
+    #[tactic(auto, using(crate::proofs::FileTableView::chains, ordered_slab::proofs::Parts::parts))]
     pub fn remove(&mut self, file: &FileRef, epoch: u32) -> (FileKind, bool)
         requires silent { queue_in self.old.files file.now ≡ [] }
         ensures socket { result.0 ≡ socket_in self.old.files file.now }
         ensures white { result.1 ≡ is_white_in epoch self.old.marks file.now }
-        ensures removed { self.new ≡ without_entry file.now self.new.room self.old }
+        ensures removed { self.new ≡ without_row file.now self.new.room self.new.space self.old }
         ensures room { self.old.room ≤ self.new.room }
+        ensures space { self.new.space ≤ self.old.space }
     {
         let Some(row) = self.rows.remove(file) else {
             return (FileKind::plain(), false);
         };
         row.kind.lemma_is_silent();
+        self.told.add_released(&mut self.rows, row.dirty, file);
         let white = matches!(row.mark.color_in(epoch), Color::White);
         (row.kind, white)
     }
@@ -176,7 +232,7 @@ impl FileTable {
 
     /// Returns the counts of a file, if it is known.
     #[inline(always)]
-    #[tactic(auto, using(crate::proofs::TrackedTableView::chains, ordered_slab::proofs::Parts::parts))]
+    #[tactic(auto, using(crate::proofs::FileTableView::chains, ordered_slab::proofs::Parts::parts))]
     pub fn count(&self, file: &FileRef) -> Option<&Count>
         ensures { option_copied result ≡ map.get self.now.counts file.now }
     {
@@ -186,7 +242,7 @@ impl FileTable {
 
     /// Hangs up that socket, whose peer is freed.
     #[inline(always)]
-    #[tactic(auto, using(crate::proofs::TrackedTableView::rows, ordered_slab::proofs::Parts::parts))]
+    #[tactic(auto, using(crate::proofs::FileTableView::rows, ordered_slab::proofs::Parts::parts))]
     pub fn hang_up(&mut self, file: &FileRef)
         ensures { self.new ≡ with_socket self.old file.now hung_up }
     {
@@ -194,11 +250,12 @@ impl FileTable {
             return;
         };
         row.kind.hang_up();
+        self.told.add_changed(row, file);
     }
 
     /// Connects that socket to this peer.
     #[inline(always)]
-    #[tactic(auto, using(crate::proofs::TrackedTableView::rows, ordered_slab::proofs::Parts::parts))]
+    #[tactic(auto, using(crate::proofs::FileTableView::rows, ordered_slab::proofs::Parts::parts))]
     pub fn connect(&mut self, file: &FileRef, peer: &FileRef)
         ensures { self.new ≡ with_socket self.old file.now (connected peer.now) }
     {
@@ -206,11 +263,12 @@ impl FileTable {
             return;
         };
         row.kind.connect(peer);
+        self.told.add_changed(row, file);
     }
 
     /// Gives that socket, which has no name, this one. On an error nothing has changed.
     #[inline(always)]
-    #[tactic(auto, using(crate::proofs::TrackedTableView::rows, ordered_slab::proofs::Parts::parts))]
+    #[tactic(auto, using(crate::proofs::FileTableView::rows, ordered_slab::proofs::Parts::parts))]
     pub fn bind(&mut self, file: &FileRef, alloc: Global, name: Bytes) -> Result<(), AllocError>
         requires { IfSome (socket_in self.old.files file.now) (λ s. s.name ≡ None) }
         ensures ok { OnOk result (self.new ≡ with_socket self.old file.now (with_name name)) }
@@ -225,7 +283,7 @@ impl FileTable {
     /// Makes that socket, which has a name and no embryos, a listener with this backlog. On an
     /// error nothing has changed.
     #[inline(always)]
-    #[tactic(auto, using(crate::proofs::TrackedTableView::rows, ordered_slab::proofs::Parts::parts))]
+    #[tactic(auto, using(crate::proofs::FileTableView::rows, ordered_slab::proofs::Parts::parts))]
     pub fn listen(&mut self, file: &FileRef, alloc: Global, most: u32) -> Result<(), AllocError>
         requires named { IfSome (socket_in self.old.files file.now) (λ s. is_none s.name ≡ false) }
         requires nobody { IfSome (socket_in self.old.files file.now) (λ s. s.backlog ≡ []) }
@@ -235,12 +293,14 @@ impl FileTable {
         let Some(row) = self.rows.get_mut(file) else {
             return Ok(());
         };
-        row.kind.listen(alloc, most)
+        row.kind.listen(alloc, most)?;
+        self.told.add_changed(row, file);
+        Ok(())
     }
 
     /// Appends an embryo to the backlog of that listener, which has room for it.
     #[inline(always)]
-    #[tactic(auto, using(crate::proofs::TrackedTableView::rows, ordered_slab::proofs::Parts::parts))]
+    #[tactic(auto, using(crate::proofs::FileTableView::rows, ordered_slab::proofs::Parts::parts))]
     pub fn enqueue(&mut self, file: &FileRef, embryo: FileRef)
         requires { IfSome (socket_in self.old.files file.now) (λ s.
             length s.backlog < room_of s.state) }
@@ -250,20 +310,20 @@ impl FileTable {
             return;
         };
         row.kind.enqueue(embryo);
+        self.told.add_changed(row, file);
     }
 
     /// Removes the first embryo of that listener, if there is one.
     #[inline(always)]
-    #[tactic(auto, using(crate::proofs::TrackedTableView::rows, ordered_slab::proofs::Parts::parts))]
+    #[tactic(auto, using(crate::proofs::FileTableView::rows, ordered_slab::proofs::Parts::parts))]
     pub fn dequeue(&mut self, file: &FileRef) -> Option<FileRef>
         ensures some { IfSome result (λ f.
             backlog_in self.old.files file.now ≡ f ∷ drop 1 (backlog_in self.old.files file.now)) }
         ensures none { IfNone result (backlog_in self.old.files file.now ≡ []) }
         ensures rest { self.new ≡ with_socket self.old file.now dequeued }
     {
-        let Some(row) = self.rows.get_mut(file) else {
-            return None;
-        };
+        let row = self.rows.get_mut(file)?;
+        self.told.add_changed(row, file);
         row.kind.dequeue()
     }
 
@@ -279,7 +339,7 @@ impl FileTable {
     /// Appends a message to the queue of that socket, which is not full. Cannot fail, since there is
     /// room.
     #[inline(always)]
-    #[tactic(auto, using(crate::proofs::TrackedTableView::messages, ordered_slab::proofs::Parts::parts))]
+    #[tactic(auto, using(crate::proofs::FileTableView::messages, ordered_slab::proofs::Parts::parts))]
     pub fn push_message(&mut self, file: &FileRef, message: Msg)
         requires socket { is_none (socket_in self.old.files file.now) ≡ false }
         requires few { length (queue_in self.old.files file.now) < MAX_MESSAGES }
@@ -290,12 +350,13 @@ impl FileTable {
     {
         let row = self.rows.get_mut(file).unwrap();
         row.push(&mut self.nodes, message);
+        self.told.add_changed(row, file);
     }
 
     /// Removes the first message of a file, whose files it moves into an empty list, or else its
     /// first embryo. Takes no memory.
     #[inline(always)]
-    #[tactic(auto, using(crate::proofs::TrackedTableView::messages, ordered_slab::proofs::Parts::parts))]
+    #[tactic(auto, using(crate::proofs::FileTableView::messages, ordered_slab::proofs::Parts::parts))]
     pub fn pop(&mut self, file: &FileRef, attached: &mut Attached) -> Option<Popped>
         requires { attached.old.items ≡ [] }
         ensures popped { IsPopped result attached.new.items
@@ -304,13 +365,14 @@ impl FileTable {
             (without_popped result) self.new.message_room }
     {
         let row = self.rows.get_mut(file)?;
+        self.told.add_changed(row, file);
         row.pop(&mut self.nodes, attached)
     }
 
     /// Takes from the queue of that socket what a receive of at most this many bytes gives
     /// (recvmsg(2)); nothing for a plain or unknown file. On an error nothing has changed.
     #[inline(always)]
-    #[tactic(auto, using(crate::proofs::TrackedTableView::messages, ordered_slab::proofs::Parts::parts))]
+    #[tactic(auto, using(crate::proofs::FileTableView::messages, ordered_slab::proofs::Parts::parts))]
     pub fn take(
         &mut self,
         file: &FileRef,
@@ -329,12 +391,14 @@ impl FileTable {
         let Some(row) = self.rows.get_mut(file) else {
             return Ok(());
         };
-        row.take(&mut self.nodes, alloc, max, taken)
+        row.take(&mut self.nodes, alloc, max, taken)?;
+        self.told.add_changed(row, file);
+        Ok(())
     }
 
     /// Adds one place of a file, which is known. Returns whether it had none. Takes no memory.
     #[inline(always)]
-    #[tactic(auto, using(crate::proofs::TrackedTableView::chains, ordered_slab::proofs::Parts::parts, ordered_slab::proofs::Values::lent, af_ledger::proofs::Unreferenced::counted))]
+    #[tactic(auto, using(crate::proofs::FileTableView::chains, ordered_slab::proofs::Parts::parts, ordered_slab::proofs::Values::lent, af_ledger::proofs::Unreferenced::counted))]
     pub fn add_ref(&mut self, place: &Place, file: &FileRef) -> bool
         requires known { IsTrue (map.contains_key self.old.counts file.now) }
         requires countable { IsCountable place.now (count_in_map self.old.counts file.now) }
@@ -353,7 +417,7 @@ impl FileTable {
 
     /// Drops one place of a file, which has one. Returns whether it was the last. Takes no memory.
     #[inline(always)]
-    #[tactic(auto, using(crate::proofs::TrackedTableView::chains, ordered_slab::proofs::Parts::parts, ordered_slab::proofs::Values::lent, af_ledger::proofs::Unreferenced::counted))]
+    #[tactic(auto, using(crate::proofs::FileTableView::chains, ordered_slab::proofs::Parts::parts, ordered_slab::proofs::Values::lent, af_ledger::proofs::Unreferenced::counted))]
     pub fn sub_ref(&mut self, place: &Place, file: &FileRef) -> bool
         requires { IsCounted place.now (count_in_map self.old.counts file.now) }
         ensures counts { self.new ≡ record self.old {
@@ -370,7 +434,7 @@ impl FileTable {
 
     /// Moves a place of a file, which has it, to a table (accept(2), recvmsg(2)). Takes no memory.
     #[inline(always)]
-    #[tactic(auto, using(crate::proofs::TrackedTableView::chains, ordered_slab::proofs::Parts::parts, ordered_slab::proofs::Values::lent, af_ledger::proofs::Unreferenced::counted))]
+    #[tactic(auto, using(crate::proofs::FileTableView::chains, ordered_slab::proofs::Parts::parts, ordered_slab::proofs::Values::lent, af_ledger::proofs::Unreferenced::counted))]
     pub fn move_to_table(&mut self, from: &Place, file: &FileRef)
         requires counted { IsCounted from.now (count_in_map self.old.counts file.now) }
         requires countable { IsCountable Table (count_in_map self.old.counts file.now) }
@@ -388,7 +452,7 @@ impl FileTable {
     /// Drops the place of one descriptor of a file, which has one. If that was its last place,
     /// returns whether the file has no name and holds nothing. Takes no memory.
     #[inline(always)]
-    #[tactic(auto, using(crate::proofs::TrackedTableView::chains, ordered_slab::proofs::Parts::parts, ordered_slab::proofs::Values::lent, af_ledger::proofs::Unreferenced::counted))]
+    #[tactic(auto, using(crate::proofs::FileTableView::chains, ordered_slab::proofs::Parts::parts, ordered_slab::proofs::Values::lent, af_ledger::proofs::Unreferenced::counted))]
     pub fn sub_descriptor(&mut self, file: &FileRef) -> Option<bool>
         requires { IsCounted Table (count_in_map self.old.counts file.now) }
         ensures counts { self.new ≡ record self.old {
@@ -406,16 +470,15 @@ impl FileTable {
     {
         let row = self.rows.get_mut(file).unwrap();
         row.count.sub(&Place::Table);
-        if row.count.is_none() {
-            Some(row.is_bare(&self.nodes))
-        } else {
-            None
+        if !row.count.is_none() {
+            return None;
         }
+        Some(row.is_bare(&self.nodes))
     }
 
     /// Returns the mark of a file, if it is known.
     #[inline(always)]
-    #[tactic(auto, using(crate::proofs::TrackedTableView::chains, ordered_slab::proofs::Parts::parts))]
+    #[tactic(auto, using(crate::proofs::FileTableView::chains, ordered_slab::proofs::Parts::parts))]
     pub fn mark(&self, file: &FileRef) -> Option<&Mark>
         ensures { option_copied result ≡ map.get self.now.marks file.now }
     {
@@ -425,7 +488,7 @@ impl FileTable {
 
     /// Sets the mark of a file, which is known. Takes no memory.
     #[inline(always)]
-    #[tactic(auto, using(crate::proofs::TrackedTableView::chains, ordered_slab::proofs::Parts::parts, ordered_slab::proofs::Values::lent))]
+    #[tactic(auto, using(crate::proofs::FileTableView::chains, ordered_slab::proofs::Parts::parts, ordered_slab::proofs::Values::lent))]
     pub fn set_mark(&mut self, file: &FileRef, mark: Mark)
         requires { IsTrue (map.contains_key self.old.marks file.now) }
         ensures set { self.new
@@ -438,7 +501,7 @@ impl FileTable {
 
     /// Sets the position of a file in the list of grey ones: a hint, which no contract sees.
     #[inline(always)]
-    #[tactic(auto, using(crate::proofs::TrackedTableView::rows, ordered_slab::proofs::Parts::parts))]
+    #[tactic(auto, using(crate::proofs::FileTableView::rows, ordered_slab::proofs::Parts::parts))]
     pub fn set_position(&mut self, file: &FileRef, at: usize)
         ensures { self.new ≡ self.old }
     {
@@ -451,7 +514,7 @@ impl FileTable {
     /// Marks a file grey, with this position in the list, if it is not marked in this pass. Returns
     /// whether this call marked it.
     #[inline(always)]
-    #[tactic(auto, using(crate::proofs::TrackedTableView::chains, ordered_slab::proofs::Parts::parts, ordered_slab::proofs::Values::lent))]
+    #[tactic(auto, using(crate::proofs::FileTableView::chains, ordered_slab::proofs::Parts::parts, ordered_slab::proofs::Values::lent))]
     pub fn shade(&mut self, file: &FileRef, epoch: u32, at: usize) -> bool
         ensures white { result ≡ is_white_in epoch self.old.marks file.now }
         ensures marked { self.new ≡ record self.old {
@@ -473,7 +536,7 @@ impl FileTable {
     /// Marks a file black that a table holds, if it is not marked in this pass. Returns what it
     /// holds, by the same look at its row; `None` if this call did not mark it.
     #[inline(always)]
-    #[tactic(auto, using(crate::proofs::TrackedTableView::chains, ordered_slab::proofs::Parts::parts, ordered_slab::proofs::Values::lent))]
+    #[tactic(auto, using(crate::proofs::FileTableView::chains, ordered_slab::proofs::Parts::parts, ordered_slab::proofs::Values::lent))]
     pub fn visit(&mut self, file: &FileRef, epoch: u32) -> Option<Contents>
         ensures due { is_some result ≡ is_due epoch self.old.counts self.old.marks file.now }
         ensures marked { is_some result ≡ true → self.new ≡ record self.old {
@@ -493,7 +556,7 @@ impl FileTable {
 
     /// Marks a file black, which is known. Returns what it holds, by the same look at its row.
     #[inline(always)]
-    #[tactic(auto, using(crate::proofs::TrackedTableView::chains, ordered_slab::proofs::Parts::parts, ordered_slab::proofs::Values::lent))]
+    #[tactic(auto, using(crate::proofs::FileTableView::chains, ordered_slab::proofs::Parts::parts, ordered_slab::proofs::Values::lent))]
     pub fn scan(&mut self, file: &FileRef, epoch: u32) -> Contents
         requires { IsTrue (map.contains_key self.old.marks file.now) }
         ensures set { self.new ≡ record self.old {
@@ -507,68 +570,13 @@ impl FileTable {
         row.contents(&self.nodes)
     }
 
-    /// Returns whether a file is dirty, if it is known.
-    #[inline(always)]
-    #[tactic(auto, using(crate::proofs::TrackedTableView::chains, ordered_slab::proofs::Parts::parts))]
-    pub fn dirty_flag(&self, file: &FileRef) -> Option<bool>
-        ensures { result ≡ map.get self.now.dirty file.now }
-    {
-        let row = self.rows.get(file)?;
-        Some(row.is_dirty())
-    }
-
-    /// Returns whether a file is dirty; an unknown one is not.
-    #[inline(always)]
-    pub fn is_dirty(&self, file: &FileRef) -> bool
-        ensures { result ≡ option_map_or (λ b. b) (map.get self.now.dirty file.now) false }
-    {
-        matches!(self.dirty_flag(file), Some(true))
-    }
-
-    /// Returns the position of a file in the list of dirty ones: a hint.
-    #[inline(always)]
-    pub fn list_index(&self, file: &FileRef) -> usize {
-        match self.rows.get(file) {
-            Some(row) => row.list_index(),
-            None => 0,
-        }
-    }
-
-    /// Sets the position of a file in the list of dirty ones: a hint, which no contract sees.
-    #[inline(always)]
-    #[tactic(auto, using(crate::proofs::TrackedTableView::rows, ordered_slab::proofs::Parts::parts))]
-    pub fn set_list_index(&mut self, file: &FileRef, index: u32)
-        ensures { self.new ≡ self.old }
-    {
-        let Some(row) = self.rows.get_mut(file) else {
-            return;
-        };
-        row.set_list_index(index);
-    }
-
-    /// Sets whether a file, which is known, is dirty. Takes no memory.
-    #[inline(always)]
-    #[tactic(auto, using(crate::proofs::TrackedTableView::chains, ordered_slab::proofs::Parts::parts, ordered_slab::proofs::Values::lent))]
-    pub fn set_dirty(&mut self, file: &FileRef, dirty: bool)
-        requires { IsTrue (map.contains_key self.old.dirty file.now) }
-        ensures set { self.new
-            ≡ record self.old { dirty = map.insert self.old.dirty file.now dirty } }
-        ensures len { map.len self.new.dirty ≡ map.len self.old.dirty }
-    {
-        let row = self.rows.get_mut(file).unwrap();
-        row.set_dirty(dirty);
-    }
-
     /// Does nothing at run time. Shows that all parts of a file come and go together.
-    #[tactic(auto, using(crate::proofs::TrackedTableView::chains, ordered_slab::proofs::Parts::parts))]
+    #[tactic(auto, using(crate::proofs::FileTableView::chains, ordered_slab::proofs::Parts::parts))]
     pub fn lemma_are_one(&self)
         ensures marks { (f : ℕ) → map.contains_key self.now.marks f
             ≡ map.contains_key self.now.files f }
         ensures counts { (f : ℕ) → map.contains_key self.now.counts f
             ≡ map.contains_key self.now.files f }
-        ensures dirty { (f : ℕ) → map.contains_key self.now.dirty f
-            ≡ map.contains_key self.now.files f }
-        ensures len { map.len self.now.dirty ≡ map.len self.now.counts }
         ensures as_many { map.len self.now.marks ≡ map.len self.now.counts }
     {
         // The view says it: reading a field gives it to the prover.
@@ -577,7 +585,7 @@ impl FileTable {
 
     /// Returns a reference to the row of this number, if there is one, by a search. A look-up by
     /// `FileRef` needs none if its hint is right.
-    #[tactic(auto, using(crate::proofs::TrackedTableView::chains, ordered_slab::proofs::Parts::parts))]
+    #[tactic(auto, using(crate::proofs::FileTableView::chains, ordered_slab::proofs::Parts::parts))]
     pub fn find(&self, ino: Ino) -> Option<FileRef>
         ensures there { IfSome result (λ f.
             (f ≡ ino) × IsTrue (map.contains_key self.now.files ino)) }
@@ -591,7 +599,7 @@ impl FileTable {
     /// behind it in the order. This number need not have a row. Behind the last answer it needs no
     /// search.
     #[inline(always)]
-    #[tactic(auto, using(crate::proofs::TrackedTableView::chains, ordered_slab::proofs::Parts::parts))]
+    #[tactic(auto, using(crate::proofs::FileTableView::chains, ordered_slab::proofs::Parts::parts))]
     pub fn next_after(&self, ino: Ino, at: usize) -> Option<(FileRef, usize)>
         ensures above { IfSome result (λ n. ino < n.0) }
         ensures there { IfSome result (λ n. IsTrue (map.contains_key self.now.files n.0)) }
@@ -601,5 +609,83 @@ impl FileTable {
             ((q : ℕ) → ino < q → map.contains_key self.now.files q ≡ false) }
     {
         self.rows.next_after(ino, at)
+    }
+    /// Begins to list freed files, and empties both lists. On an error nothing has changed.
+    #[tactic(auto, using(crate::proofs::FileTableInvariant::cleaned_rows))]
+    pub fn tell_released(&mut self) -> Result<(), AllocError>
+        ensures ok { OnOk result (self.new ≡ record self.old {
+          since = record {
+            changed = self.old.since.changed;
+            released = true;
+            files = self.old.files;
+            next = self.old.last + 1;
+          };
+          room = self.new.room;
+          space = self.new.space;
+        }) }
+        ensures space { self.new.space ≤ self.old.space }
+        ensures err { OnErr result (self.new ≡ self.old) }
+    {
+        self.told.tell_released(self.rows.len())?;
+        self.room = 0;
+        self.told.clear(&mut self.rows);
+        self.since_rows = Snapshot::of(&self.rows);
+        self.since_nodes = Snapshot::of(&self.nodes);
+        Ok(())
+    }
+
+    /// Begins to list sockets whose readiness may have changed, and empties both lists. On an error
+    /// nothing has changed.
+    #[tactic(auto, using(crate::proofs::FileTableInvariant::cleaned_rows))]
+    pub fn tell_changed(&mut self) -> Result<(), AllocError>
+        ensures ok { OnOk result (self.new ≡ record self.old {
+          since = record {
+            changed = true;
+            released = self.old.since.released;
+            files = self.old.files;
+            next = self.old.last + 1;
+          };
+          room = self.new.room;
+          space = self.new.space;
+        }) }
+        ensures space { self.new.space ≤ self.old.space }
+        ensures err { OnErr result (self.new ≡ self.old) }
+    {
+        self.told.tell_changed(self.rows.len())?;
+        self.room = 0;
+        self.told.clear(&mut self.rows);
+        self.since_rows = Snapshot::of(&self.rows);
+        self.since_nodes = Snapshot::of(&self.nodes);
+        Ok(())
+    }
+
+    /// Returns the numbers of the files that were freed since the lists were last emptied, each
+    /// once, if that list is kept.
+    pub fn released_files(&self) -> &[Ino]
+        ensures { self.now.since.released ≡ true
+            → AreReleased self.now.files (self.now.last + 1) self.now.since result.now }
+    {
+        self.told.released()
+    }
+
+    /// Returns the sockets whose readiness may have changed since the lists were last emptied, each
+    /// once, if that list is kept.
+    pub fn changed_sockets(&self) -> &[FileRef]
+        ensures { self.now.since.changed ≡ true
+            → AreChanged self.now.files self.now.since result.now }
+    {
+        self.told.changed()
+    }
+
+    /// Empties both lists. Takes no memory.
+    #[tactic(auto, using(crate::proofs::FileTableInvariant::cleaned_rows))]
+    pub fn clear_told(&mut self)
+        ensures { self.new ≡ record self.old {
+          since = record self.old.since { files = self.old.files; next = self.old.last + 1 };
+        } }
+    {
+        self.told.clear(&mut self.rows);
+        self.since_rows = Snapshot::of(&self.rows);
+        self.since_nodes = Snapshot::of(&self.nodes);
     }
 }

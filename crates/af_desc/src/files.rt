@@ -12,7 +12,7 @@ ghost use Rattle.af_base.specs.Steps.{connected_socket, idle_socket};
 ghost use Rattle.af_base.specs.Whole.{IsMessageWithin};
 ghost use Rattle.af_base.specs.World.{untold};
 ghost use Rattle.af_mark.specs.MarksView.{is_grey, is_unmarked};
-ghost use Rattle.af_desc.specs.TrackedTableView.{file_of};
+ghost use Rattle.af_desc.specs.FileTableView.{file_of};
 ghost use Rattle.af_base.specs.Told.{AreChanged, AreReleased};
 ghost use Rattle.af_desc.specs.FilesView.{AreNamed, after_end, changed, changed_queue, entered};
 ghost use Rattle.af_desc.specs.FilesView.{freed, is_full, is_live, is_unmarked_socket, name_of};
@@ -23,8 +23,9 @@ ghost use Rattle.af_queue.specs.TakenView.{nothing_received};
 
 use crate::contents::Popped;
 use crate::counts::with_embryo;
+use crate::file_table::FileTable;
 use crate::socket::{FileKind, Socket};
-use crate::tracked_table::{TrackedTable, widen};
+use crate::told_lists::widen;
 use af_base::events::SockType;
 use af_base::file_list::swap_remove_file;
 use af_base::ids::{FileRef, Ino, Uid};
@@ -43,7 +44,7 @@ const RESERVED_AT_ONCE: usize = 64;
 /// its name, if it has one. A `FileRef` has a hint of the key of its row.
 pub struct Files {
     pub(crate) alloc: Global,
-    pub(crate) rows: TrackedTable,
+    pub(crate) rows: FileTable,
     /// The unreferenced files.
     pub(crate) unreferenced: Vec<FileRef>,
     /// The grey files: marked, and not scanned.
@@ -116,7 +117,7 @@ impl Files {
     {
         Files {
             alloc,
-            rows: TrackedTable::new(alloc),
+            rows: FileTable::new(alloc),
             unreferenced: Vec::new(alloc),
             grey: Vec::new(alloc),
             epoch: 0,
@@ -159,7 +160,7 @@ impl Files {
         ensures there { IfSome result (λ f. (f ≡ ino) × IsTrue (is_live self.now ino)) }
         ensures none { IfNone result (is_live self.now ino ≡ false) }
     {
-        self.rows.table.find(ino)
+        self.rows.find(ino)
     }
 
     /// Returns the socket that the file is; `None` for a plain or unknown file.
@@ -167,7 +168,7 @@ impl Files {
     pub fn socket(&self, file: &FileRef) -> Option<Socket<'_>>
         ensures { result ≡ socket_in self.now.files file.now }
     {
-        self.rows.table.socket(file)
+        self.rows.socket(file)
     }
 
     /// Returns the socket of this abstract name, if there is one (unix(7)): one look-up, for any
@@ -191,7 +192,7 @@ impl Files {
         ensures none { IfNone result ((q : ℕ) → ino < q → is_live self.now q ≡ false) }
         ensures begins { is_live self.now 0 ≡ false }
     {
-        self.rows.table.next_after(ino, at)
+        self.rows.next_after(ino, at)
     }
 
     /// Makes a file, under the next number, with this place as its first reference. Reserves room
@@ -314,7 +315,7 @@ impl Files {
         ensures succeeds { self.old.message_room ≡ true → IsOk result }
         ensures rest { self.new ≡ record self.old { message_room = self.new.message_room } }
     {
-        self.rows.table.room_for_message()
+        self.rows.room_for_message()
     }
 
     /// Appends a message to the queue of that socket, which is not full. Cannot fail, since there is
@@ -517,7 +518,7 @@ impl Files {
 /// Nothing else changes, also on an error.
 #[inline(always)]
 fn reserve(
-    rows: &mut TrackedTable,
+    rows: &mut FileTable,
     unreferenced: &mut Vec<FileRef>,
     grey: &mut Vec<FileRef>,
     files: usize,
@@ -550,7 +551,7 @@ fn reserve(
 #[cold]
 #[inline(never)]
 fn reserve_anew(
-    rows: &mut TrackedTable,
+    rows: &mut FileTable,
     unreferenced: &mut Vec<FileRef>,
     grey: &mut Vec<FileRef>,
     files: usize,

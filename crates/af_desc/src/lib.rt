@@ -4,12 +4,13 @@
 
 mod contents;
 mod counts;
+mod dirty_mark;
 mod file_row;
 mod file_table;
 mod files;
 mod marks;
 mod socket;
-mod tracked_table;
+mod told_lists;
 
 pub use contents::{Contents, Popped};
 pub use files::Files;

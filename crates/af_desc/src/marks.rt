@@ -13,8 +13,8 @@ ghost use Rattle.af_mark.specs.MarksView.{shaded, visited};
 ghost use Rattle.af_mark.specs.declared.color.Color.TheVariants.{Black, Grey, White};
 
 use crate::contents::Contents;
+use crate::file_table::FileTable;
 use crate::files::Files;
-use crate::tracked_table::TrackedTable;
 use af_base::file_list::swap_remove_file;
 use af_base::ids::{FileRef, Ino};
 use af_mark::{Color, Mark};
@@ -133,7 +133,7 @@ impl Files {
         let Some(_) = self.next_grey() else {
             return;
         };
-        let Some(mark) = self.rows.table.mark(file) else {
+        let Some(mark) = self.rows.mark(file) else {
             return;
         };
         if mark.is_grey_in(self.epoch) {
@@ -159,7 +159,7 @@ impl Files {
     fn color(&self, file: &FileRef) -> Option<Color>
         ensures { result ≡ map.get self.now.marks.colors file.now }
     {
-        let mark = self.rows.table.mark(file)?;
+        let mark = self.rows.mark(file)?;
         Some(mark.color_in(self.epoch))
     }
 
@@ -178,7 +178,7 @@ impl Files {
 /// Removes the file from the list of grey files, if it is there. The last file takes its position,
 /// and the mark of that file keeps it as a hint.
 #[inline(always)]
-fn remove_listed(rows: &mut TrackedTable, grey: &mut Vec<FileRef>, ino: Ino, at: usize)
+fn remove_listed(rows: &mut FileTable, grey: &mut Vec<FileRef>, ino: Ino, at: usize)
     ensures each { (f : ℕ) → count_in f grey.new.items
         ≡ count_in f grey.old.items - cond (nat_eq f ino) 1 0 }
     ensures capacity { vec_capacity grey.new ≡ vec_capacity grey.old }
@@ -192,7 +192,7 @@ fn remove_listed(rows: &mut TrackedTable, grey: &mut Vec<FileRef>, ino: Ino, at:
 }
 
 /// Returns the epoch after this one: no mark of an earlier epoch counts in it.
-fn next_epoch(rows: &mut TrackedTable, epoch: u32) -> u32
+fn next_epoch(rows: &mut FileTable, epoch: u32) -> u32
     requires upto { AreUpTo epoch rows.old.marks }
     requires begins { map.contains_key rows.old.files 0 ≡ false }
     ensures white { (f : ℕ) → map.get (colors_in result rows.new.marks) f
@@ -213,7 +213,7 @@ fn next_epoch(rows: &mut TrackedTable, epoch: u32) -> u32
 
 /// Clears the marks of all files.
 #[cold]
-fn clear_all_marks(rows: &mut TrackedTable)
+fn clear_all_marks(rows: &mut FileTable)
     requires begins { map.contains_key rows.old.files 0 ≡ false }
     ensures marks { AreUpTo 0 rows.new.marks }
     ensures known { (f : ℕ) → map.contains_key rows.new.marks f
@@ -223,13 +223,13 @@ fn clear_all_marks(rows: &mut TrackedTable)
 {
     let mut last = Ino(0);
     let mut order_hint = 0;
-    while let Some((file, at)) = rows.table.next_after(last, order_hint) {
+    while let Some((file, at)) = rows.next_after(last, order_hint) {
         // Each file has a mark.
-        rows.table.lemma_are_one();
+        rows.lemma_are_one();
         rows.set_mark(&file, Mark::none());
         last = file.ino();
         order_hint = at;
     }
     // No other number has a mark.
-    rows.table.lemma_are_one();
+    rows.lemma_are_one();
 }

@@ -8,7 +8,7 @@ ghost use Rattle.af_base.specs.Refusals.{room_of};
 ghost use Rattle.af_base.specs.Steps.{connected_socket, idle_socket};
 ghost use Rattle.af_desc.specs.FilesView.{hung_up};
 ghost use Rattle.af_desc.specs.Form.{embryos_of, shown, state_of};
-ghost use Rattle.af_desc.specs.TrackedTableView.{refilled};
+ghost use Rattle.af_desc.specs.FileTableView.{refilled};
 
 use af_base::events::{SockType, State};
 use af_base::ids::FileRef;

@@ -2,8 +2,8 @@ use Rattle.std.proofs.Common.{◌≡◌, ◌∷◌, [], true, drop, sym, ap, ◌
 use Rattle.std.specs.Prelude.{if◌then◌else◌, is_some}
 use Rattle.af_queue.specs.Chains.{messages_of}
 use Rattle.af_desc.specs.FilesView.{popped}
-use Rattle.af_desc.specs.TrackedTableView.{refilled}
-use Rattle.af_desc.proofs.TrackedTableView.{queue_changed, queue_of_kind}
+use Rattle.af_desc.specs.FileTableView.{refilled}
+use Rattle.af_desc.proofs.FileTableView.{queue_changed, queue_of_kind}
 use Rattle.af_desc.proofs.file_row.FileRow.pop_message.Goals as goal
 
 pub returns-clause-some : goal.returns-clause-some

@@ -1,8 +1,8 @@
 use Rattle.std.proofs.Common.{ap}
 use Rattle.af_base.specs.Changes.{pushed}
 use Rattle.af_queue.specs.Chains.{messages_of}
-use Rattle.af_desc.specs.TrackedTableView.{refilled}
-use Rattle.af_desc.proofs.TrackedTableView.{queue_changed}
+use Rattle.af_desc.specs.FileTableView.{refilled}
+use Rattle.af_desc.proofs.FileTableView.{queue_changed}
 use Rattle.af_desc.proofs.file_row.FileRow.push.Goals as goal
 
 pub returns-clause-file : goal.returns-clause-file

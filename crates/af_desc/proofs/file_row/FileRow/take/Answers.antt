@@ -5,8 +5,8 @@ use Rattle.af_base.specs.World.{Socket}
 use Rattle.af_base.proofs.Lookups.{some_same}
 use Rattle.af_queue.specs.Chains.{messages_of}
 use Rattle.af_desc.specs.FilesView.{received_from}
-use Rattle.af_desc.specs.TrackedTableView.{refilled}
-use Rattle.af_desc.proofs.TrackedTableView.{queue_changed}
+use Rattle.af_desc.specs.FileTableView.{refilled}
+use Rattle.af_desc.proofs.FileTableView.{queue_changed}
 use Rattle.af_desc.proofs.file_row.FileRow.take.Goals as goal
 
 -- A consequence of a call's effect holds where the call succeeded.

@@ -1,10 +1,11 @@
-use Rattle.std.proofs.Common.{◌<◌, length, sym, ap, ◌∙◌}
+use Rattle.std.proofs.Common.{◌<◌, length, refl, sym, ap, ◌∙◌}
 use Rattle.std.specs.Option.{option_copied_mut}
 use Rattle.af_base.specs.Refusals.{room_of}
 use Rattle.af_queue.specs.Chains.{messages_of}
 use Rattle.af_desc.specs.FilesView.{socket_in}
 use Rattle.af_desc.specs.FileTableView.{FileTableView}
-use Rattle.af_desc.proofs.TrackedTableView.{if_socket, socket_at}
+use Rattle.af_desc.proofs.FileTableView.{if_socket, socket_at}
+use Rattle.af_desc.proofs.FileTableInvariant.{kept-kind, room-for}
 use Rattle.af_desc.proofs.file_table.FileTable.enqueue.Goals as goal
 
 pub enqueue-requires : goal.enqueue-requires
@@ -14,3 +15,11 @@ enqueue-requires c =
     let at = sym c.get_mut.ensures.value ∙ ap option_copied_mut c.in-Some.is in
     let shown = sym (ap (λ (v : FileTableView). socket_in v.files c.args.file.now) c.self.view_is) ∙ socket_at a.nodes a.rows.values c.args.file.now x at in
     if_socket (λ s. length s.backlog < room_of s.state) (messages_of a.nodes x.chain) x.kind _ shown c.requires
+
+pub add_changed-requires : goal.add_changed-requires
+add_changed-requires c = λ asked. room-for c.self.invariant c.args.file.now c.in-Some.row.now (sym c.get_mut.ensures.value ∙ ap option_copied_mut c.in-Some.is)
+
+pub invariant_of-self-2 : goal.invariant_of-self-2
+invariant_of-self-2 c =
+    let n = c.add_changed.ensures in
+    kept-kind c.self.invariant c.args.file.now c.in-Some.row.now (sym c.get_mut.ensures.value ∙ ap option_copied_mut c.in-Some.is) _ _ _ refl refl n.row n.dirty n.listed n.rest

@@ -1,13 +1,17 @@
 use Rattle.std.proofs.Common.{sym, ap, ◌∙◌}
 use Rattle.std.specs.Option.{option_copied_mut}
-use Rattle.af_desc.proofs.TrackedTableView.{chains_changed}
+use Rattle.af_desc.proofs.FileTableInvariant.{kept-queue, room-for}
 use Rattle.af_desc.proofs.file_table.FileTable.push_message.Goals as goal
 
 pub push-requires-clause-chain : goal.push-requires-clause-chain
-push-requires-clause-chain c = c.self.invariant.each c.args.file.now c.unwrap-row.result.now (sym c.get_mut.ensures.value ∙ ap option_copied_mut c.unwrap-row.ensures)
+push-requires-clause-chain c = c.self.invariant.chained.each c.args.file.now c.unwrap-row.result.now (sym c.get_mut.ensures.value ∙ ap option_copied_mut c.unwrap-row.ensures)
+
+pub add_changed-requires : goal.add_changed-requires
+add_changed-requires c = λ asked not. room-for c.self.invariant c.args.file.now c.unwrap-row.result.now (sym c.get_mut.ensures.value ∙ ap option_copied_mut c.unwrap-row.ensures) (sym (ap (λ r. r.dirty) c.push.ensures.rest) ∙ not)
 
 pub invariant_of-self : goal.invariant_of-self
 invariant_of-self c =
-    let a = c.self.inside in
+    let n = c.add_changed.ensures in
+    let p = c.push.ensures in
     let at = sym c.get_mut.ensures.value ∙ ap option_copied_mut c.unwrap-row.ensures in
-    chains_changed a.nodes c.push.new.nodes a.rows.values c.args.file.now c.unwrap-row.result.now c.push.new.self at c.self.invariant c.push.ensures.chain c.push.ensures.others
+    kept-queue c.self.invariant c.args.file.now c.unwrap-row.result.now at _ _ _ _ (sym (ap (λ r. r.dirty) p.rest)) n.row n.dirty n.listed n.rest p.chain p.others

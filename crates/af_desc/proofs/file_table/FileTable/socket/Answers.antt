@@ -4,7 +4,7 @@ use Rattle.std.specs.FinMap as map
 use Rattle.std.specs.Option.{option_copied}
 use Rattle.af_desc.specs.FilesView.{socket_in}
 use Rattle.af_desc.specs.FileTableView.{FileTableView}
-use Rattle.af_desc.proofs.TrackedTableView.{socket_at, stranger_is_none}
+use Rattle.af_desc.proofs.FileTableView.{socket_at, stranger_is_none}
 use Rattle.af_desc.proofs.file_table.FileTable.socket.Goals as goal
 
 pub returns-in_err-row : goal.returns-in_err-row
@@ -16,7 +16,7 @@ returns-in_err-row c =
 pub socket-requires : goal.socket-requires
 socket-requires c =
     let at : map.get c.self.inside.rows.values c.args.file.now ≡ Some c.in_ok-row.row.now = sym c.get.ensures ∙ ap option_copied c.in_ok-row.was in
-    record { chain = c.self.invariant.each c.args.file.now c.in_ok-row.row.now at }
+    record { chain = c.self.invariant.chained.each c.args.file.now c.in_ok-row.row.now at }
 
 pub returns : goal.returns
 returns c =

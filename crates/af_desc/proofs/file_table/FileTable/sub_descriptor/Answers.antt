@@ -1,6 +1,13 @@
-use Rattle.std.proofs.Common.{sym, ap, ◌∙◌}
+use Rattle.std.proofs.Common.{refl, sym, ap, ◌∙◌}
 use Rattle.std.specs.Option.{option_copied_mut}
+use Rattle.af_desc.proofs.FileTableInvariant.{kept-marked}
 use Rattle.af_desc.proofs.file_table.FileTable.sub_descriptor.Goals as goal
 
 pub is_bare-requires : goal.is_bare-requires
-is_bare-requires c = record { chain = c.self.invariant.each c.args.file.now c.unwrap-row.result.now (sym c.get_mut.ensures.value ∙ ap option_copied_mut c.unwrap-row.ensures) }
+is_bare-requires c = record { chain = c.self.invariant.chained.each c.args.file.now c.unwrap-row.result.now (sym c.get_mut.ensures.value ∙ ap option_copied_mut c.unwrap-row.ensures) }
+
+pub invariant_of-self : goal.invariant_of-self
+invariant_of-self c = kept-marked c.self.invariant c.args.file.now c.unwrap-row.result.now (sym c.get_mut.ensures.value ∙ ap option_copied_mut c.unwrap-row.ensures) _ refl refl refl
+
+pub invariant_of-self-2 : goal.invariant_of-self-2
+invariant_of-self-2 c = kept-marked c.self.invariant c.args.file.now c.unwrap-row.result.now (sym c.get_mut.ensures.value ∙ ap option_copied_mut c.unwrap-row.ensures) _ refl refl refl

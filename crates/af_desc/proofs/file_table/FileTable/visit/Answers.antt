@@ -1,6 +1,10 @@
-use Rattle.std.proofs.Common.{sym, ap, ◌∙◌}
+use Rattle.std.proofs.Common.{refl, sym, ap, ◌∙◌}
 use Rattle.std.specs.Option.{option_copied_mut}
+use Rattle.af_desc.proofs.FileTableInvariant.{kept-marked}
 use Rattle.af_desc.proofs.file_table.FileTable.visit.Goals as goal
 
 pub contents-requires : goal.contents-requires
-contents-requires c = record { chain = c.self.invariant.each c.args.file.now c.in_ok-row.row.now (sym c.get_mut.ensures.value ∙ ap option_copied_mut c.in_ok-row.was) }
+contents-requires c = record { chain = c.self.invariant.chained.each c.args.file.now c.in_ok-row.row.now (sym c.get_mut.ensures.value ∙ ap option_copied_mut c.in_ok-row.was) }
+
+pub invariant_of-self-2 : goal.invariant_of-self-2
+invariant_of-self-2 c = kept-marked c.self.invariant c.args.file.now c.in_ok-row.row.now (sym c.get_mut.ensures.value ∙ ap option_copied_mut c.in_ok-row.was) _ refl refl refl

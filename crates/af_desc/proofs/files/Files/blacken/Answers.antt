@@ -18,14 +18,14 @@ take_grey-requires c =
     let e = c.self.inside.epoch in
     let f = c.args.file.now in
     let some = c.in-Some-mark.is in
-    ap (λ v. is_grey v.marks f) (sym c.self.view_is) ∙ ap (λ o. option_map_or is_grey_color o false) (color_get e c.self.inside.rows.marks f ∙ ap (λ a. option_map (color_in a.epoch) (map.get a.rows.marks f)) (sym c.self-inside.view_is) ∙ ap (option_map (color_in _)) (sym c.mark.ensures ∙ ap option_copied some)) ∙ sym c.is_grey_in.ensures ∙ c.if-is_grey_in.true
+    ap (λ v. is_grey v.marks f) (sym c.self.view_is) ∙ ap (λ o. option_map_or is_grey_color o false) (color_get e c.self.inside.rows.marks f ∙ ap (option_map (color_in _)) (sym c.mark.ensures ∙ ap option_copied some)) ∙ sym c.is_grey_in.ensures ∙ c.if-is_grey_in.true
 
 pub returns-then-is_grey_in : goal.returns-then-is_grey_in
 returns-then-is_grey_in c =
     let e = c.self.inside.epoch in
     let f = c.args.file.now in
     let some = c.in-Some-mark.is in
-    let grey = ap (λ v. is_grey v.marks f) (sym c.self.view_is) ∙ ap (λ o. option_map_or is_grey_color o false) (color_get e c.self.inside.rows.marks f ∙ ap (λ a. option_map (color_in a.epoch) (map.get a.rows.marks f)) (sym c.self-inside.view_is) ∙ ap (option_map (color_in _)) (sym c.mark.ensures ∙ ap option_copied some)) ∙ sym c.is_grey_in.ensures ∙ c.if-is_grey_in.true in
+    let grey = ap (λ v. is_grey v.marks f) (sym c.self.view_is) ∙ ap (λ o. option_map_or is_grey_color o false) (color_get e c.self.inside.rows.marks f ∙ ap (option_map (color_in _)) (sym c.mark.ensures ∙ ap option_copied some)) ∙ sym c.is_grey_in.ensures ∙ c.if-is_grey_in.true in
     c.take_grey.ensures.rest ∙ ap (λ m. record c.args.self.now { marks = m }) c.take_grey.ensures.colors ∙ black c.args.self.now f true grey
 
 pub returns-else-is_grey_in : goal.returns-else-is_grey_in
@@ -33,11 +33,11 @@ returns-else-is_grey_in c =
     let e = c.self.inside.epoch in
     let f = c.args.file.now in
     let some = c.in-Some-mark.is in
-    black c.args.self.now f false (ap (λ v. is_grey v.marks f) (sym c.self.view_is) ∙ ap (λ o. option_map_or is_grey_color o false) (color_get e c.self.inside.rows.marks f ∙ ap (λ a. option_map (color_in a.epoch) (map.get a.rows.marks f)) (sym c.self-inside.view_is) ∙ ap (option_map (color_in _)) (sym c.mark.ensures ∙ ap option_copied some)) ∙ sym c.is_grey_in.ensures ∙ c.if-is_grey_in.false)
+    black c.args.self.now f false (ap (λ v. is_grey v.marks f) (sym c.self.view_is) ∙ ap (λ o. option_map_or is_grey_color o false) (color_get e c.self.inside.rows.marks f ∙ ap (option_map (color_in _)) (sym c.mark.ensures ∙ ap option_copied some)) ∙ sym c.is_grey_in.ensures ∙ c.if-is_grey_in.false)
 
 pub returns-in_default-mark : goal.returns-in_default-mark
 returns-in_default-mark c =
     let e = c.self.inside.epoch in
     let f = c.args.file.now in
     let none = c.in_default-mark.is in
-    black c.args.self.now f false (ap (λ v. is_grey v.marks f) (sym c.self.view_is) ∙ ap (λ o. option_map_or is_grey_color o false) (color_get e c.self.inside.rows.marks f ∙ ap (λ a. option_map (color_in a.epoch) (map.get a.rows.marks f)) (sym c.self-inside.view_is) ∙ ap (option_map (color_in _)) (sym c.mark.ensures ∙ ap option_copied none)))
+    black c.args.self.now f false (ap (λ v. is_grey v.marks f) (sym c.self.view_is) ∙ ap (λ o. option_map_or is_grey_color o false) (color_get e c.self.inside.rows.marks f ∙ ap (option_map (color_in _)) (sym c.mark.ensures ∙ ap option_copied none)))

@@ -9,9 +9,9 @@ pub returns-in_err-mark : goal.returns-in_err-mark
 returns-in_err-mark c =
     let e = c.self.inside.epoch in
     let none : c.from_residual.result ≡ None = search rules in
-    none ∙ sym (ap (λ v. map.get v.marks.colors c.args.file.now) (sym c.self.view_is) ∙ color_get e c.self.inside.rows.marks c.args.file.now ∙ ap (λ a. option_map (color_in a.epoch) (map.get a.rows.marks c.args.file.now)) (sym c.self-inside.view_is) ∙ ap (option_map (color_in _)) (sym c.mark.ensures ∙ ap option_copied c.in_err-mark.was))
+    none ∙ sym (ap (λ v. map.get v.marks.colors c.args.file.now) (sym c.self.view_is) ∙ color_get e c.self.inside.rows.marks c.args.file.now ∙ ap (option_map (color_in _)) (sym c.mark.ensures ∙ ap option_copied c.in_err-mark.was))
 
 pub returns : goal.returns
 returns c =
     let e = c.self.inside.epoch in
-    ap Some c.color_in.ensures ∙ sym (ap (λ v. map.get v.marks.colors c.args.file.now) (sym c.self.view_is) ∙ color_get e c.self.inside.rows.marks c.args.file.now ∙ ap (λ a. option_map (color_in a.epoch) (map.get a.rows.marks c.args.file.now)) (sym c.self-inside.view_is) ∙ ap (option_map (color_in _)) (sym c.mark.ensures ∙ ap option_copied c.in_ok-mark.was))
+    ap Some c.color_in.ensures ∙ sym (ap (λ v. map.get v.marks.colors c.args.file.now) (sym c.self.view_is) ∙ color_get e c.self.inside.rows.marks c.args.file.now ∙ ap (option_map (color_in _)) (sym c.mark.ensures ∙ ap option_copied c.in_ok-mark.was))

@@ -2,7 +2,7 @@ use Rattle.std.proofs.Common.{◌+◌, ◌∙◌, ap, arith}
 use Rattle.std.specs.Prelude.{vec_capacity}
 use Rattle.std.specs.FinMap as map
 use Rattle.af_desc.specs.FilesView.{entered}
-use Rattle.af_desc.specs.TrackedTableView.{file_of, with_row}
+use Rattle.af_desc.specs.FileTableView.{file_of, with_row}
 use Rattle.af_desc.proofs.FilesInvariant.{filed-entered, filed-reserved, seen, seen-entered}
 use Rattle.af_desc.proofs.files.Files.make.Goals as goal
 

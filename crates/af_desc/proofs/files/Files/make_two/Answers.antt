@@ -14,7 +14,7 @@ use Rattle.af_base.proofs.StaysWithin.{len-insert_most}
 use Rattle.af_ledger.specs.Counted.{more, uncounted}
 use Rattle.af_mark.specs.Grey.{unmarked}
 use Rattle.af_desc.specs.FilesView.{FilesView, changed, entered, name_of, paired}
-use Rattle.af_desc.specs.TrackedTableView.{file_of, with_row, with_socket}
+use Rattle.af_desc.specs.FileTableView.{file_of, with_row, with_socket}
 use Rattle.af_desc.proofs.FilesInvariant.{filed-entered, filed-reserved, seen, seen-entered, socket_changed}
 use Rattle.af_desc.proofs.files.Files.make_two.Goals as goal
 

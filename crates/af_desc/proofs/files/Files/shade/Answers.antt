@@ -4,7 +4,7 @@ use Rattle.std.specs.FinMap as map
 use Rattle.af_mark.specs.Grey.{grey_mark}
 use Rattle.af_mark.specs.MarksView.{MarksView, shaded}
 use Rattle.af_desc.specs.FilesView.{FilesView}
-use Rattle.af_desc.specs.TrackedTableView.{TrackedTableView}
+use Rattle.af_desc.specs.FileTableView.{FileTableView}
 use Rattle.af_desc.proofs.FilesInvariant.{seen, few-white, filed-grey, seen-shaded, shaded-not}
 use Rattle.af_desc.proofs.files.Files.shade.Goals as goal
 
@@ -25,7 +25,7 @@ push_reserved-requires c =
     let a = c.self.inside in
     let same : c.args.file.now ≡ c.ino-2.inside.0 = sym c.ino.ensures ∙ sym c.ino-2.view_is in
     let e = c.shade.ensures in
-    let is = e.marked ∙ ap {A = _} {B = TrackedTableView} (λ b. record a.rows { marks = cond b (map.insert a.rows.marks c.args.file.now (grey_mark a.epoch)) a.rows.marks }) c.if-shade.true in
+    let is = e.marked ∙ ap {A = _} {B = FileTableView} (λ b. record a.rows { marks = cond b (map.insert a.rows.marks c.args.file.now (grey_mark a.epoch)) a.rows.marks }) c.if-shade.true in
     let low = (filed-grey a.epoch a.bound a.rows c.args.file.now c.self.invariant (sym e.white ∙ c.if-shade.true) (omega (arith, same, c.if-ino-self.false)) c.shade.new.self e.len is).0 in
     omega (arith, low)
 
@@ -34,7 +34,7 @@ invariant_of-self c =
     let a = c.self.inside in
     let same : c.args.file.now ≡ c.ino-2.inside.0 = sym c.ino.ensures ∙ sym c.ino-2.view_is in
     let e = c.shade.ensures in
-    let is = e.marked ∙ ap {A = _} {B = TrackedTableView} (λ b. record a.rows { marks = cond b (map.insert a.rows.marks c.args.file.now (grey_mark a.epoch)) a.rows.marks }) c.if-shade.true in
+    let is = e.marked ∙ ap {A = _} {B = FileTableView} (λ b. record a.rows { marks = cond b (map.insert a.rows.marks c.args.file.now (grey_mark a.epoch)) a.rows.marks }) c.if-shade.true in
     (filed-grey a.epoch a.bound a.rows c.args.file.now c.self.invariant (sym e.white ∙ c.if-shade.true) (omega (arith, same, c.if-ino-self.false)) c.shade.new.self e.len is).1
     c.push_reserved.new.self.items (vec_capacity c.push_reserved.new.self) (c.push_reserved.ensures.items ∙ ap (λ g. a.grey.items ++ g ∷ []) c.duplicate.ensures) (omega (arith, c.push_reserved.ensures.capacity))
 
@@ -44,7 +44,7 @@ returns-then-shade c =
     let f = c.args.file.now in
     let same : f ≡ c.ino-2.inside.0 = sym c.ino.ensures ∙ sym c.ino-2.view_is in
     let e = c.shade.ensures in
-    let is = e.marked ∙ ap {A = _} {B = TrackedTableView} (λ b. record a.rows { marks = cond b (map.insert a.rows.marks f (grey_mark a.epoch)) a.rows.marks }) c.if-shade.true in
+    let is = e.marked ∙ ap {A = _} {B = FileTableView} (λ b. record a.rows { marks = cond b (map.insert a.rows.marks f (grey_mark a.epoch)) a.rows.marks }) c.if-shade.true in
     subst (λ v. Shades (seen a.epoch a.bound c.shade.new.self a.next) v f) c.self.view_is
     (ap (λ r. seen a.epoch a.bound r a.next) is ∙ seen-shaded a.epoch a.bound a.rows f (omega (arith, same, c.if-ino-self.false)) (sym e.white ∙ c.if-shade.true) a.next)
 
@@ -54,7 +54,7 @@ returns-else-shade c =
     let a = c.self.inside in
     let f = c.args.file.now in
     let e = c.shade.ensures in
-    let is = e.marked ∙ ap {A = _} {B = TrackedTableView} (λ b. record a.rows { marks = cond b (map.insert a.rows.marks f (grey_mark a.epoch)) a.rows.marks }) c.if-shade.false in
+    let is = e.marked ∙ ap {A = _} {B = FileTableView} (λ b. record a.rows { marks = cond b (map.insert a.rows.marks f (grey_mark a.epoch)) a.rows.marks }) c.if-shade.false in
     let old = seen a.epoch a.bound a.rows a.next in
     subst (λ v. Shades (seen a.epoch a.bound c.shade.new.self a.next) v f) c.self.view_is
     (ap (λ r. seen a.epoch a.bound r a.next) is ∙ ap {A = MarksView} {B = FilesView} (λ m. record old { marks = m }) (sym (shaded-not a.epoch a.bound a.rows f (sym e.white ∙ c.if-shade.false))))
