@@ -49,7 +49,8 @@ IsMissing n seats k = (1 ≤ k) × (k ≤ n) × ((i : ℕ) → i < length seats 
 
 -- The seats of the number k hold their part of the log.
 abbrev pub IsAudited : List Entry → List SeatView → ℕ → Type 0
-IsAudited log seats k = (i : ℕ) → i < length seats → number_at seats i ≡ k → list_at seats i ≡ of_seat k log
+IsAudited log seats k =
+    (i : ℕ) → i < length seats → number_at seats i ≡ k → list_at seats i ≡ of_seat k log
 
 -- The least number of a seat that holds something else is k.
 abbrev pub IsWrong : List Entry → List SeatView → ℕ → Type 0

@@ -56,7 +56,8 @@ Made (Some (Collects turns budget)) old new = Turned budget old turns new
 abbrev pub Short : Option Work → List Pair → List Pair → Type 0
 Short None old new = ⊥
 Short (Some (Script events)) old new = FellShort old events new
-Short (Some (Collects turns budget)) old new = (done : ℕ) × (done < turns) × Turned budget old done new
+Short (Some (Collects turns budget)) old new =
+    (done : ℕ) × (done < turns) × Turned budget old done new
 
 -- All was done, or a beginning.
 abbrev pub Part : Option Work → List Pair → List Pair → Type 0
@@ -80,7 +81,8 @@ pub record Driven (R : Option Work → List Pair → List Pair → Type 0) (seat
   pub lists : (i : ℕ) → i < length seats → R (slice_get works i) (list_at seats i) (list_at after i)
 
 -- The list of a seat of number k falls short, and all was done from each seat with a lower number.
-pub record IsFirstShort (k : ℕ) (seats : List SeatView) (works : List Work) (after : List SeatView) : Type 0 where
+pub record IsFirstShort (k : ℕ) (seats : List SeatView) (works : List Work)
+    (after : List SeatView) : Type 0 where
   pub short : (i : ℕ) × (i < length seats) × (number_at seats i ≡ k)
       × Short (slice_get works i) (list_at seats i) (list_at after i)
   pub below : (i : ℕ) → i < length seats → number_at seats i < k

@@ -29,7 +29,8 @@ of_seat k (e ∷ log) = if nat_eq e.seat k then pair_of e ∷ of_seat k log else
 
 -- A log is legal from the first machine to the second: each entry is of a seat from 1 to the number
 -- of seats, and the events with their replies are a run from one to the other.
-pub record IsLegalFrom (start : Machine) (seats : ℕ) (machine : Machine) (log : List Entry) : Type 0 where
+pub record IsLegalFrom (start : Machine) (seats : ℕ) (machine : Machine)
+    (log : List Entry) : Type 0 where
   pub some_seat : 1 ≤ seats
   pub few_seats : seats ≤ MAX_SEATS
   pub of_seats : All (λ e. (1 ≤ e.seat) × (e.seat ≤ seats)) log

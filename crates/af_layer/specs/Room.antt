@@ -28,5 +28,6 @@ most_fds other = 0
 
 -- The room is enough for the reply.
 abbrev pub HasRoomFor : ReplyRoomView → Reply → Type 0
-HasRoomFor room (reply.Got bytes fds trunc ctrunc) = (length bytes ≤ room.bytes) × (length fds ≤ room.fds)
+HasRoomFor room (reply.Got bytes fds trunc ctrunc) =
+    (length bytes ≤ room.bytes) × (length fds ≤ room.fds)
 HasRoomFor room other = Unit {0}

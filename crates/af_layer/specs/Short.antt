@@ -49,6 +49,7 @@ turn_reply_of (turned.Refused error) = reply.Refused error
 abbrev pub entry_of : KeptAs → Entry
 entry_of (kept.Step seat e r) = record { seat = seat; event = event_of e; reply = reply_of r }
 entry_of (kept.Begin seat r) = record { seat = seat; event = event.Begin; reply = turn_reply_of r }
-entry_of (kept.Slice seat budget r) = record { seat = seat; event = event.Slice budget; reply = turn_reply_of r }
+entry_of (kept.Slice seat budget r) =
+    record { seat = seat; event = event.Slice budget; reply = turn_reply_of r }
 entry_of (kept.Pass seat r) = record { seat = seat; event = event.Pass; reply = turn_reply_of r }
 entry_of (kept.Whole seat both) = record { seat = seat; event = both.value.0; reply = both.value.1 }

@@ -50,15 +50,18 @@ seats_of workers = map (λ w. w.seat) workers
 
 -- The fault of the least seat among the first n workers, if one stopped.
 abbrev pub LeastBelow : List WorkerView → ℕ → Option (ℕ × CallError) → Type 0
-LeastBelow workers n None = (i : ℕ) (other : WorkerView) → i < n → (slice_index_or workers i other).fault ≡ None
+LeastBelow workers n None =
+    (i : ℕ) (other : WorkerView) → i < n → (slice_index_or workers i other).fault ≡ None
 LeastBelow workers n (Some f) =
-    ((i : ℕ) × (i < n) × ((other : WorkerView) → ((slice_index_or workers i other).seat.number ≡ f.0)
+    ((i : ℕ) × (i < n) × ((other : WorkerView)
+    → ((slice_index_or workers i other).seat.number ≡ f.0)
     × ((slice_index_or workers i other).fault ≡ Some f.1)))
     × ((i : ℕ) (other : WorkerView) → i < n → IfSome (slice_index_or workers i other).fault
     (λ e. f.0 ≤ (slice_index_or workers i other).seat.number))
 
 -- A part of a script was done, and the rest is left.
-pub record ScriptProgress (old : List Pair) (script rest : List Event) (new : List Pair) : Type 0 where
+pub record ScriptProgress (old : List Pair) (script rest : List Event)
+    (new : List Pair) : Type 0 where
   pub done : List Event
   pub split : script ≡ done ++ rest
   pub went : WentOn old done new

@@ -10,4 +10,5 @@ use Rattle.af_steps.specs.declared.views.FileInfo.TheVariants as shown
 abbrev pub shown_of : Option File → Option FileInfo
 shown_of None = None
 shown_of (Some Plain) = Some shown.Plain
-shown_of (Some (AsSocket s)) = Some (shown.Socket s.kind s.state (length s.queue) (length s.backlog))
+shown_of (Some (AsSocket s)) =
+    Some (shown.Socket s.kind s.state (length s.queue) (length s.backlog))

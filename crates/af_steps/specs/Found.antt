@@ -26,7 +26,8 @@ pub record HasSocket (w : World) (p : ℕ) (q : Process) (n f : ℕ) (x : Socket
 
 -- A connect of process p at its descriptor n finds socket f, and the listener g of this name, with
 -- room for an embryo of this type (connect(2)).
-pub record HasListener (w : World) (p n : ℕ) (name : List ℕ) (f g : ℕ) (kind : SockType) : Type 0 where
+pub record HasListener (w : World) (p n : ℕ) (name : List ℕ) (f g : ℕ)
+    (kind : SockType) : Type 0 where
   pub full : is_full w 1 ≡ false
   pub client : is_none (socket_at w f) ≡ false
   pub idle : IfSome (socket_at w f) (λ (s : Socket). s.state ≡ state.Idle)

@@ -47,7 +47,8 @@ Refuses old p s e new = (step_error old.world p s ≡ Some e) × (new ≡ old)
 
 -- The start of a process was refused by this error, and nothing changed.
 abbrev pub RefusesStart : Machine → ℕ → Errno → Machine → Type 0
-RefusesStart old nofile e new = (error_of (spawn_refusal old.world nofile) false ≡ Some e) × (new ≡ old)
+RefusesStart old nofile e new =
+    (error_of (spawn_refusal old.world nofile) false ≡ Some e) × (new ≡ old)
 
 -- The reply of a receive or a peek (recvmsg(2)).
 abbrev pub got_reply : Received → Reply

@@ -45,7 +45,8 @@ answer_of (Err e) = negative (error_number e)
 
 -- The type of this number (socket(2): SOCK_STREAM is 1, SOCK_SEQPACKET is 5).
 abbrev pub type_numbered : ℕ → Option SockType
-type_numbered n = if nat_eq n 1 then Some kind.Stream else (if nat_eq n 5 then Some kind.Seqpacket else None)
+type_numbered n =
+    if nat_eq n 1 then Some kind.Stream else (if nat_eq n 5 then Some kind.Seqpacket else None)
 
 -- A pair of sockets of this type, or that there is none (socketpair(2), ESOCKTNOSUPPORT).
 abbrev pub pair_step : Option SockType → Result Step ℕ
@@ -106,4 +107,5 @@ Denies old p s before value new after =
 abbrev pub AnswersCall : Machine → ℕ → Result Step ℕ → Memory → ℤ → Machine → Memory → Type 0
 AnswersCall old p (Ok s) before value new after =
     Serves old p s before value new after ⊎ Denies old p s before value new after
-AnswersCall old p (Err e) before value new after = (value ≡ negative e) × (new ≡ old) × (after ≡ before)
+AnswersCall old p (Err e) before value new after =
+    (value ≡ negative e) × (new ≡ old) × (after ≡ before)

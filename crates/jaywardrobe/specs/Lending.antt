@@ -13,5 +13,6 @@ with_value_at o p n w = record o { values = map.insert o.values (ino_on o.machin
 
 -- Once the borrow r ends, the file carries the last value written through r; at `None` all is as it
 -- was.
-abbrev pub lends_value_at : (T : RattleType) → MutBor (OwnedView T.Denot) → ℕ → ℕ → Option (MutBor T.Denot) → Fml
+abbrev pub lends_value_at : (T : RattleType) → MutBor (OwnedView T.Denot) → ℕ → ℕ
+    → Option (MutBor T.Denot) → Fml
 lends_value_at T o p n r = LendsIf (owned.the_row T) T o r (with_value_at o.now p n) o.now

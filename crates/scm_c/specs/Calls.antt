@@ -10,7 +10,8 @@ use Rattle.scm_c.specs.Codes.{code_of, error_code, no_engine}
 
 -- The engine behind the handle does this event with this reply: one step of the machine.
 abbrev pub EngineDoes : Option Machine → Event → Reply → Option Machine → Type 0
-EngineDoes old event r new = (m : Machine) × (n : Machine) × (old ≡ Some m) × (new ≡ Some n) × Step m event r n
+EngineDoes old event r new =
+    (m : Machine) × (n : Machine) × (old ≡ Some m) × (new ≡ Some n) × Step m event r n
 
 -- There is no engine, and the call says so.
 abbrev pub Lacks : Option Machine → ℤ → Option Machine → Type 0
@@ -35,7 +36,8 @@ RefusesFirst old e result new = (result ≡ error_code e) × (new ≡ old)
 
 -- A new engine, without any event; or out of memory, and none.
 abbrev pub Makes : ℤ → Option Machine → Type 0
-Makes result new = ((result ≡ pos 0) × (new ≡ Some fresh)) ⊎ ((result ≡ error_code ENOMEM) × (new ≡ None))
+Makes result new =
+    ((result ≡ pos 0) × (new ≡ Some fresh)) ⊎ ((result ≡ error_code ENOMEM) × (new ≡ None))
 
 -- The call answers 0 and writes a `y` that meets `holds`; or there is no engine, and it writes
 -- nothing.

@@ -58,7 +58,8 @@ received_written (reply.Got bytes fds trunc ctrunc) (xs, ns, old) = (
   over fds ns,
   record { fds = length fds; trunc = trunc; ctrunc = ctrunc },
 )
-received_written reply.End (xs, ns, old) = (xs, ns, record { fds = 0; trunc = false; ctrunc = false })
+received_written reply.End (xs, ns, old) =
+    (xs, ns, record { fds = 0; trunc = false; ctrunc = false })
 received_written r s = s
 
 -- The least live file above f, or 0, which is no inode number, where none is above it.

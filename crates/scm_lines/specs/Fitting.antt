@@ -66,7 +66,8 @@ has_keyword v other = true
 
 -- The step of a process in a script of this version.
 unfoldable pub step_in : Version → List (List ℕ) → Option Step
-step_in v words = step_of words >>= λ does. if not (is_later does) || is_second v then Some does else None
+step_in v words =
+    step_of words >>= λ does. if not (is_later does) || is_second v then Some does else None
 
 -- The next line of a script, by its first word.
 unfoldable pub form_in : Version → List ℕ → List (List ℕ) → Option Line

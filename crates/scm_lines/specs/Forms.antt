@@ -72,7 +72,8 @@ SaysForm (privilege makes) words said = (granted : Bool)
     × (IsPrivilege words granted × (makes granted ≡ said))
 SaysForm (items makes) words said = (fds : List ℕ) × (IsAttached words fds × (makes fds ≡ said))
 SaysForm (k ◂ form) [] said = ⊥
-SaysForm (k ◂ form) (word ∷ words) said = (v : Value k) × (SaysWord k word v × SaysForm (form v) words said)
+SaysForm (k ◂ form) (word ∷ words) said =
+    (v : Value k) × (SaysWord k word v × SaysForm (form v) words said)
 
 -- The reading of words by a form.
 abbrev pub read_form : {A : Type 0} → Form A → List (List ℕ) → Option A
@@ -89,8 +90,12 @@ FormRow A = List ℕ × Form A
 
 -- The row of a verb: the step of a process, by the words after its number.
 abbrev pub verb_row : Verb → FormRow Step
-verb_row verb.Send = (codes "send", number ◂ λ on. payload ◂ λ bytes. items λ fds. step.Send on bytes fds)
-verb_row verb.Recv = (codes "recv", number ◂ λ on. number ◂ λ max_bytes. number ◂ λ max_fds. end (step.Recv on max_bytes max_fds))
+verb_row verb.Send =
+    (codes "send", number ◂ λ on. payload ◂ λ bytes. items λ fds. step.Send on bytes fds)
+verb_row verb.Recv = (
+  codes "recv",
+  number ◂ λ on. number ◂ λ max_bytes. number ◂ λ max_fds. end (step.Recv on max_bytes max_fds),
+)
 verb_row verb.Open = (codes "open", end step.Open)
 verb_row verb.Close = (codes "close", number ◂ λ fd. end (step.Close fd))
 verb_row verb.Dup = (codes "dup", number ◂ λ fd. end (step.Dup fd))
@@ -102,13 +107,21 @@ verb_row verb.Pair = (codes "pair", sockets ◂ λ kind. end (step.Pair kind))
 verb_row verb.Fork = (codes "fork", end step.Fork)
 verb_row verb.Exit = (codes "exit", end step.Exit)
 verb_row verb.Bind = (codes "bind", number ◂ λ on. name ◂ λ text. end (step.Bind on text))
-verb_row verb.Listen = (codes "listen", number ◂ λ on. number ◂ λ backlog. end (step.Listen on backlog))
-verb_row verb.Peek = (codes "peek", number ◂ λ on. number ◂ λ max_bytes. number ◂ λ max_fds. end (step.Peek on max_bytes max_fds))
+verb_row verb.Listen =
+    (codes "listen", number ◂ λ on. number ◂ λ backlog. end (step.Listen on backlog))
+verb_row verb.Peek = (
+  codes "peek",
+  number ◂ λ on. number ◂ λ max_bytes. number ◂ λ max_fds. end (step.Peek on max_bytes max_fds),
+)
 verb_row verb.Limit = (codes "limit", number ◂ λ nofile. end (step.Limit nofile))
 
 -- The row of a keyword: the meaning of a line without a process's number.
 abbrev pub line_row : Keyword → FormRow Line
-line_row keyword.Spawn = (codes "spawn", number ◂ λ uid. number ◂ λ nofile. privilege λ granted. line.Event (event.Spawn uid nofile granted))
+line_row keyword.Spawn = (
+  codes "spawn",
+  number ◂ λ uid. number ◂ λ nofile. privilege λ granted.
+      line.Event (event.Spawn uid nofile granted),
+)
 line_row keyword.Begin = (codes "begin", end (line.Event event.Begin))
 line_row keyword.Slice = (codes "slice", number ◂ λ budget. end (line.Event (event.Slice budget)))
 line_row keyword.Pass = (codes "pass", end (line.Event event.Pass))
@@ -120,8 +133,9 @@ line_row keyword.Version = (codes "version", two ◂ λ v. end line.Version2)
 -- All verbs.
 abbrev pub verbs : List Verb
 verbs =
-    verb.Send ∷ verb.Recv ∷ verb.Open ∷ verb.Close ∷ verb.Dup ∷ verb.Dup2 ∷ verb.Connect ∷ verb.Accept
-    ∷ verb.Socket ∷ verb.Pair ∷ verb.Fork ∷ verb.Exit ∷ verb.Bind ∷ verb.Listen ∷ verb.Peek ∷ verb.Limit ∷ []
+    verb.Send ∷ verb.Recv ∷ verb.Open ∷ verb.Close ∷ verb.Dup ∷ verb.Dup2
+    ∷ verb.Connect ∷ verb.Accept ∷ verb.Socket ∷ verb.Pair ∷ verb.Fork ∷ verb.Exit
+    ∷ verb.Bind ∷ verb.Listen ∷ verb.Peek ∷ verb.Limit ∷ []
 
 -- All keywords.
 abbrev pub keywords : List Keyword

@@ -36,7 +36,8 @@ line_takes_memory (word ∷ words) = step_takes_memory words
 
 -- The meaning of a line after its first word, which is a process's number or a keyword.
 abbrev pub line_behind : Option ℕ → List ℕ → List (List ℕ) → Option Line
-line_behind (Some pid) word words = option_map (λ does. line.Event (event.Proc pid does)) (step_of words)
+line_behind (Some pid) word words =
+    option_map (λ does. line.Event (event.Proc pid does)) (step_of words)
 line_behind None word words = read_by line_row keywords word words
 
 -- The meaning of a line that begins with this word.

@@ -29,7 +29,8 @@ is_numeral word = nat_lt 0 (length word) && nat_le (length word) 10 && all_digit
 
 -- The number of a word: a numeral below 2 ^ 32.
 abbrev pub word_number : List ℕ → Option ℕ
-word_number word = if is_numeral word && nat_lt (value_on 0 word) (2 ^ 32) then Some (value_on 0 word) else None
+word_number word =
+    if is_numeral word && nat_lt (value_on 0 word) (2 ^ 32) then Some (value_on 0 word) else None
 
 -- The first word as a number, and the words after it.
 abbrev pub first_number : List (List ℕ) → Option (ℕ × List (List ℕ))

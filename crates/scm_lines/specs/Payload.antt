@@ -18,7 +18,8 @@ hex_value b =
 
 -- The byte of two hexadecimal digits.
 abbrev pub hex_pair : ℕ → ℕ → Option ℕ
-hex_pair high low = option_and_then (λ h. option_map (λ l. 16 * h + l) (hex_value low)) (hex_value high)
+hex_pair high low =
+    option_and_then (λ h. option_map (λ l. 16 * h + l) (hex_value low)) (hex_value high)
 
 -- A byte before the meaning of the rest.
 abbrev pub byte_before : Option ℕ → Option (List ℕ) → Option (List ℕ)

@@ -27,15 +27,16 @@ Spells word (b ∷ bytes) = (rest : List ℕ) × (SpellsByte word b rest × Spel
 -- or the characters for one byte or more.
 abbrev pub IsPayload : List ℕ → List ℕ → Type 0
 IsPayload word bytes = (length bytes ≤ 65537)
-    × (((digits : List ℕ) × ((n : ℕ) × (word ≡ 42 ∷ digits) × IsNumber digits n × (bytes ≡ replicate n 120)))
+    × (((digits : List ℕ) × ((n : ℕ) × (word ≡ 42 ∷ digits) × IsNumber digits n
+    × (bytes ≡ replicate n 120)))
     ⊎ ((0 < length bytes) × Spells word bytes))
 
 -- An item, and its descriptors: a number, or a number, * and how many copies of it, 1 to 1,024.
 abbrev pub IsItem : List ℕ → List ℕ → Type 0
 IsItem word fds =
     ((n : ℕ) × (IsNumber word n × (fds ≡ n ∷ [])))
-    ⊎ ((front back : List ℕ) × ((n k : ℕ) × (word ≡ front ++ 42 ∷ back) × IsNumber front n × IsNumber back k
-    × (1 ≤ k) × (k ≤ 1024) × (fds ≡ replicate k n)))
+    ⊎ ((front back : List ℕ) × ((n k : ℕ) × (word ≡ front ++ 42 ∷ back)
+    × IsNumber front n × IsNumber back k × (1 ≤ k) × (k ≤ 1024) × (fds ≡ replicate k n)))
 
 -- Items, and their descriptors, in order.
 abbrev pub AreItems : List (List ℕ) → List ℕ → Type 0

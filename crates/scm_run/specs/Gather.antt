@@ -22,7 +22,9 @@ MoveStops old new before after fault.Memory = WritesFront old new before after
 
 -- The answer is this fault once the gathered text is written, or the writer's fault where that
 -- fails. After a fault of the writer nothing more is written.
-abbrev pub WritesBeforeFault : RunFault → RunFault → List ℕ → Option (List ℕ) → Option (List ℕ) → Type 0
-WritesBeforeFault fault.Write answer gathered before after = (answer ≡ fault.Write) × (after ≡ before)
+abbrev pub WritesBeforeFault : RunFault → RunFault → List ℕ → Option (List ℕ) → Option (List ℕ)
+    → Type 0
+WritesBeforeFault fault.Write answer gathered before after =
+    (answer ≡ fault.Write) × (after ≡ before)
 WritesBeforeFault f answer gathered before after = ((answer ≡ f) × Appends before after gathered)
     ⊎ ((answer ≡ fault.Write) × AppendsFront before after gathered)

@@ -37,7 +37,8 @@ LineStops v bytes number gathered left before after (fault.Unreadable n) = (n �
     × (read_in v bytes ≡ None) × WritesFront gathered left before after
 LineStops v bytes number gathered left before after fault.Read = ⊥
 LineStops v bytes number gathered left before after fault.Write = AppendsFront before after gathered
-LineStops v bytes number gathered left before after fault.Memory = WritesFront gathered left before after
+LineStops v bytes number gathered left before after fault.Memory =
+    WritesFront gathered left before after
 
 -- The outcome of the step of process p that this verb and the bytes behind it say. It was done, and
 -- the line of its reply is appended to the text; or its words cannot be read, or memory for them

@@ -30,7 +30,8 @@ pub record Runs (taken text : List ℕ) (state : RunProgress) : Type 0 where
 
 -- These bytes were taken, the whole lines in them were run, and their text was written but for what
 -- is gathered.
-pub record Ran (taken : List ℕ) (before after : Option (List ℕ)) (state : RunProgress) : Type 0 where
+pub record Ran (taken : List ℕ) (before after : Option (List ℕ))
+    (state : RunProgress) : Type 0 where
   pub written : List ℕ
   pub runs : Runs taken (written ++ state.gathered) state
   pub wrote : Appends before after written
@@ -41,7 +42,8 @@ Took bytes was old is new = (taken : List ℕ) (before : Option (List ℕ)) → 
     → Ran (taken ++ bytes) before is new
 
 -- All lines of this input were run, and their text was written but for what is gathered.
-pub record RanAll (input : List ℕ) (before after : Option (List ℕ)) (state : RunProgress) : Type 0 where
+pub record RanAll (input : List ℕ) (before after : Option (List ℕ))
+    (state : RunProgress) : Type 0 where
   pub written : List ℕ
   pub runs : RunText first_point (lines input) state.events (written ++ state.gathered) state.point
   pub wrote : Appends before after written
@@ -69,17 +71,20 @@ pub record Waits (says : Option (List ℕ) → RunFault → Type 0) (before afte
   pub written : List ℕ
   pub wrote : Appends before after written
   pub whole : (last : Option (List ℕ)) → Appends before last (written ++ gathered) → says last f
-  pub part : (last : Option (List ℕ)) → AppendsFront before last (written ++ gathered) → says last fault.Write
+  pub part : (last : Option (List ℕ)) → AppendsFront before last (written ++ gathered)
+      → says last fault.Write
 
 -- A fault, before what is gathered is written: one of the writer is so already.
 abbrev pub Halts : (Option (List ℕ) → RunFault → Type 0) → Option (List ℕ) → Option (List ℕ)
     → List ℕ → RunFault → Type 0
-Halts says before after gathered (fault.Unreadable n) = Waits says before after gathered (fault.Unreadable n)
+Halts says before after gathered (fault.Unreadable n) =
+    Waits says before after gathered (fault.Unreadable n)
 Halts says before after gathered fault.Read = ⊥
 Halts says before after gathered fault.Write = says after fault.Write
 Halts says before after gathered fault.Memory = Waits says before after gathered fault.Memory
 
 -- From any state, a run stopped at this fault in these bytes more.
-abbrev pub Stopped : List ℕ → Option (List ℕ) → RunProgress → Option (List ℕ) → RunProgress → RunFault → Type 0
+abbrev pub Stopped : List ℕ → Option (List ℕ) → RunProgress → Option (List ℕ) → RunProgress
+    → RunFault → Type 0
 Stopped bytes was old is new f = (taken : List ℕ) (before : Option (List ℕ))
     → Ran taken before was old → Halts (FaultIn (taken ++ bytes) before) before is new.gathered f

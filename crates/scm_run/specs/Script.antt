@@ -51,7 +51,8 @@ first_point = record { machine = fresh; version = version.Unknown }
 
 -- The bytes of a line can be read at this point, lead from old to new, do this many events and have
 -- this text.
-pub record LineText (old : Point) (bytes : List ℕ) (events : ℕ) (text : List ℕ) (new : Point) : Type 0 where
+pub record LineText (old : Point) (bytes : List ℕ) (events : ℕ) (text : List ℕ)
+    (new : Point) : Type 0 where
   pub says : Line
   pub read : read_in old.version bytes ≡ Some says
   pub does : LineEffect old.machine says events text new.machine
@@ -67,7 +68,8 @@ RunText old (bytes ∷ others) events text new =
     × (events ≡ first + more) × (text ≡ written ++ rest)
 
 -- The writer was given the text of a run of these lines from the first point.
-pub record Wrote (script : List (List ℕ)) (events : ℕ) (before after : Option (List ℕ)) : Type 0 where
+pub record Wrote (script : List (List ℕ)) (events : ℕ)
+    (before after : Option (List ℕ)) : Type 0 where
   pub text : List ℕ
   pub point : Point
   pub runs : RunText first_point script events text point
@@ -97,7 +99,8 @@ pub record RanToEnd (told left before after : Option (List ℕ)) (events : ℕ) 
 
 -- The line of this number, from 1, is the first that cannot be read where the lines before it lead,
 -- and their text was written.
-pub record RanToUnreadable (input : List ℕ) (before after : Option (List ℕ)) (number : ℕ) : Type 0 where
+pub record RanToUnreadable (input : List ℕ) (before after : Option (List ℕ))
+    (number : ℕ) : Type 0 where
   pub bad : List ℕ
   pub events : ℕ
   pub counted : 0 < number
@@ -149,9 +152,11 @@ FaultAt input before after fault.Write = WroteFirst input before after
 FaultAt input before after fault.Memory = RanFirst input before after
 
 -- The meaning of a fault for the reader's input and the written text.
-abbrev pub StopsBy : Option (List ℕ) → Option (List ℕ) → Option (List ℕ) → Option (List ℕ) → RunFault → Type 0
+abbrev pub StopsBy : Option (List ℕ) → Option (List ℕ) → Option (List ℕ) → Option (List ℕ)
+    → RunFault → Type 0
 StopsBy told left before after fault.Read = RanAsRead told left before after
-StopsBy told left before after other = (input : List ℕ) × HasInput told input × FaultAt input before after other
+StopsBy told left before after other =
+    (input : List ℕ) × HasInput told input × FaultAt input before after other
 
 -- The fault is that writing failed.
 abbrev pub is_write_fault : {A : Type 0} → Result A RunFault → Bool

@@ -30,7 +30,8 @@ AnswersLine old bytes answer new = DoesLine old bytes answer new ⊎ TellsOf old
 
 -- These lines, from the one of this number on, lead from old to new, and this is their shown text.
 -- Some of them can be read at their place, and these are their answers.
-abbrev pub PlayText : Style → ℕ → Point → List (List ℕ) → List (List ℕ) → List ℕ → List ℕ → Point → Type 0
+abbrev pub PlayText : Style → ℕ → Point → List (List ℕ) → List (List ℕ) → List ℕ → List ℕ → Point
+    → Type 0
 PlayText style n old [] read replies text new = (read ≡ []) × (replies ≡ [])
     × (text ≡ prompt_text style n) × (new ≡ old)
 PlayText style n old (bytes ∷ others) read replies text new =

@@ -54,7 +54,8 @@ PlayedScript told before after = (style : Style)
 
 -- The task was done to its end: the script on the input was run or played; or that of a file was
 -- played, or there was a race, and the input was not read.
-abbrev pub Did : Task → Option (List ℕ) → Option (List ℕ) → Option (List ℕ) → Option (List ℕ) → Type 0
+abbrev pub Did : Task → Option (List ℕ) → Option (List ℕ) → Option (List ℕ) → Option (List ℕ)
+    → Type 0
 Did Run told left before after = (events : ℕ) × RanToEnd told left before after events
 Did (Play None) told left before after = PlayedScript told before after
 Did (Play (Some path)) told left before after = left ≡ told

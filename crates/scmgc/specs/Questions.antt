@@ -10,7 +10,9 @@ use Rattle.scmgc.specs.declared.play.own.Question.TheVariants as question
 
 -- The words that ask, each with its question.
 abbrev pub questions : List (List ℕ × Question)
-questions = (codes "who", question.Who) ∷ (codes "graph", question.Graph) ∷ (codes "help", question.Help) ∷ []
+questions =
+    (codes "who", question.Who) ∷ (codes "graph", question.Graph)
+    ∷ (codes "help", question.Help) ∷ []
 
 -- The question that a line asks: it has just one word.
 abbrev pub question_of : List ℕ → Option Question

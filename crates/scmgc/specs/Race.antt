@@ -79,14 +79,17 @@ Finishes exits old new = (exited : List Pair) × WentOn old exits exited × Ends
 -- The main thread started the processes of this many workers. After all work it let each child exit
 -- that a worker had forked, and made a last pass.
 abbrev pub ChildrenExit : ℕ → List Entry → Type 0
-ChildrenExit workers log = Finishes (exits_in (workers + 1) log) (spawned workers) (of_seat (workers + 2) log)
+ChildrenExit workers log =
+    Finishes (exits_in (workers + 1) log) (spawned workers) (of_seat (workers + 2) log)
 
 -- The log of a race that ended well: it is a run of the machine; each worker did its script, and
 -- the collector this many turns, as `Turns` says; the main thread started the processes first, and
 -- ended with a whole pass that was done.
-pub record RacedBy (Turns : ℕ → List Pair → Type 0) (workers steps seed : ℕ) (b : BookView) : Type 0 where
+pub record RacedBy (Turns : ℕ → List Pair → Type 0) (workers steps seed : ℕ)
+    (b : BookView) : Type 0 where
   pub legal : IsLegal b.seats b.machine b.log
-  pub scripts : (k : ℕ) → 1 ≤ k → k ≤ workers → events_of (of_seat k b.log) ≡ script_of k workers steps seed
+  pub scripts : (k : ℕ) → 1 ≤ k → k ≤ workers
+      → events_of (of_seat k b.log) ≡ script_of k workers steps seed
   pub turns : Turns steps (of_seat (workers + 1) b.log)
   pub main_thread : EndsInPass (spawned workers) (of_seat (workers + 2) b.log)
 
@@ -132,4 +135,5 @@ RaceText workers steps seed budget = TellsRace (Raced workers steps seed budget)
 
 -- The text tells a race with checkpoints that ended well.
 abbrev pub LongRaceText : ℕ → ℕ → ℕ → ℕ → List ℕ → Type 0
-LongRaceText workers steps seed budget = TellsRace (RacedInParts workers steps seed budget) workers steps
+LongRaceText workers steps seed budget =
+    TellsRace (RacedInParts workers steps seed budget) workers steps

@@ -53,12 +53,18 @@ race_app = with_rule (with_rule (with_rule (with_rule (with_rule (new_app (codes
 -- The command before its subcommands: it has a version, and wants a subcommand.
 abbrev pub bare_app : App
 bare_app = let app = new_app (codes "scmgc") in record app {
-  top = record app.top { has_version = true; arg_required_else_help = true; subcommand_required = true };
+  top = record app.top {
+    has_version = true;
+    arg_required_else_help = true;
+    subcommand_required = true;
+  };
 }
 
 -- The whole command.
 abbrev pub whole_app : App
-whole_app = with_subcommand (with_subcommand (with_subcommand bare_app run_app.top) play_app.top) race_app.top
+whole_app =
+    with_subcommand (with_subcommand (with_subcommand bare_app run_app.top) play_app.top)
+    race_app.top
 
 -- The value of the option of this name is the number n, within these bounds: it is what the text
 -- says that `clap` found for the option. A plus may precede its digits.
