@@ -6,7 +6,7 @@ use Rattle.af_base.specs.declared.events.Event.{Event}
 use Rattle.af_base.specs.declared.events.Event.TheVariants as event
 use Rattle.af_base.specs.declared.events.Step.{Step}
 use Rattle.af_base.specs.declared.events.Step.TheVariants as step
-use Rattle.scmgc.specs.Race.Scripts.{IsStepOf, opening_of, opening_steps, script_of, words_of}
+use Rattle.scmgc.specs.Race.Scripts.{IsStepOf, opening_of, opening_steps, script_of, drawn_words}
 use Rattle.scmgc.specs.Race.Table.{event_of_word}
 
 -- Steps of a process are steps of it.
@@ -21,7 +21,7 @@ own-words worker workers words = All-map (IsStepOf worker) (event_of_word worker
 pub own-script : (worker workers steps seed : ℕ) → All (IsStepOf worker) (script_of worker workers steps seed)
 own-script worker workers steps seed =
     let P : Event → Type 0 = IsStepOf worker in
-    let drawn : List Event = map (event_of_word worker workers) (words_of worker seed (steps - 5)) in
+    let drawn : List Event = map (event_of_word worker workers) (drawn_words worker seed (steps - 5)) in
     All-append P (opening_of worker ++ drawn) (event.Proc worker step.Exit ∷ [])
-    (All-append P (opening_of worker) drawn (own-steps worker (opening_steps worker)) (own-words worker workers (words_of worker seed (steps - 5))))
+    (All-append P (opening_of worker) drawn (own-steps worker (opening_steps worker)) (own-words worker workers (drawn_words worker seed (steps - 5))))
     (own-steps worker (step.Exit ∷ []))

@@ -42,12 +42,12 @@ unfoldable pub generator_of : ℕ → ℕ → List ℕ
 generator_of worker seed = jumped worker (of_seed (splitmix_seed 32 seed))
 
 -- The next words of a worker's generator, xoshiro256++.
-abbrev pub words_of : ℕ → ℕ → ℕ → List ℕ
-words_of worker seed count = first_words plus_plus count (generator_of worker seed)
+abbrev pub drawn_words : ℕ → ℕ → ℕ → List ℕ
+drawn_words worker seed count = first_words plus_plus count (generator_of worker seed)
 
 -- The script of a worker: the opening, an event for each word, and the exit.
 abbrev pub script_of : ℕ → ℕ → ℕ → ℕ → List Event
 script_of worker workers steps seed =
     opening_of worker
-    ++ map (event_of_word worker workers) (words_of worker seed (steps - 5))
+    ++ map (event_of_word worker workers) (drawn_words worker seed (steps - 5))
     ++ event.Proc worker step.Exit ∷ []
