@@ -128,12 +128,12 @@ def defined() -> Refusals:
     """What the definition has. Its rows leave out ESRCH, which a step of a process is tested for first, and ENOMEM."""
     refusals, steps, passes = (text_of(f"crates/af_base/specs/{it}.antt") for it in ("Refusals", "Steps", "Pass"))
     # The right side of each part of a row by the part's name, and of each clause of `step_row` by its step's.
-    clauses = re.findall(r"^(\w+)(?: [^=\n]*\bstep\.(\w+))?[^=\n]* =(.*(?:\n +.*)*)", refusals, re.M)
+    clauses = re.findall(r"^(\w+)(?: [^=\n]*\bstep\.(\w+))?[^=\n]* =(.*(?:\n[ )].*)*)", refusals, re.M)
     bodies = {step or name: body for name, step, body in clauses}
 
     def row(name: str) -> List[str]:
         parts = re.findall(r"\b(on_\w+|at_socket|recv_row)\b", bodies[name])
-        return merged(re.findall(r", (E[A-Z]+)\)", bodies[name]) + [error for part in parts for error in row(part)])
+        return merged(re.findall(r",\s+(E[A-Z]+),?\s*\)", bodies[name]) + [error for part in parts for error in row(part)])
 
     frugal = re.findall(r"^needs_no_memory \(?step\.(\w+).* = true$", steps, re.M)
     found = {"spawn": [*row("spawn_row"), "ENOMEM"]}
@@ -196,9 +196,10 @@ def documented() -> Refusals:
 def forms() -> Dict[str, str]:
     """The lines of the table of forms, by verb."""
     text, found = text_of("crates/scm_lines/specs/Forms.antt"), {}
-    for maker, verb, form in re.findall(r'^(step|line)_row \w+\.\w+ = \(codes "(\w+)", (.*)\)$', text, re.M):
+    rows = re.findall(r'^(verb|line)_row \w+\.\w+ =\s+\(\s*codes "(\w+)",\s+((?:.*(?:\n +.*)*))', text, re.M)
+    for maker, verb, form in rows:
         kinds = re.findall(r"\w+(?= ◂)|\b(?:items|privilege)(?= λ)", form)
-        found[verb] = " ".join(["P"] * (maker == "step") + [verb] + [WORDS.get(it, it) for it in kinds])
+        found[verb] = " ".join(["P"] * (maker == "verb") + [verb] + [WORDS.get(it, it) for it in kinds])
     return found
 
 
