@@ -47,17 +47,17 @@ abbrev pub WroteNoRace : Bool → Option (List ℕ) → Bool → Option (List �
 WroteNoRace had_failed before has_failed after = ((has_failed ≡ had_failed) × (after ≡ before))
     ⊎ (has_failed ≡ true)
 
--- A script was played to its end, where the reader tells it.
-abbrev pub PlayedScript : Option (List ℕ) → Option (List ℕ) → Option (List ℕ) → Type 0
-PlayedScript told before after = (style : Style)
-    × ((input : List ℕ) → told ≡ Some input → Played style input before after)
+-- A script was played to its end, in this style, where the reader tells it.
+abbrev pub PlayedScript : Style → Option (List ℕ) → Option (List ℕ) → Option (List ℕ) → Type 0
+PlayedScript style told before after = (input : List ℕ) → told ≡ Some input
+    → Played style input before after
 
--- The task was done to its end: the script on the input was run or played; or that of a file was
--- played, or there was a race, and the input was not read.
-abbrev pub Did : Task → Option (List ℕ) → Option (List ℕ) → Option (List ℕ) → Option (List ℕ)
-    → Type 0
-Did Run told left before after = (events : ℕ) × RanToEnd told left before after events
-Did (Play None) told left before after = PlayedScript told before after
-Did (Play (Some path)) told left before after = left ≡ told
-Did (Race workers steps seed budget checkpoint) told left before after = (left ≡ told)
+-- The task was done to its end: the script on the input was run, or played in this style; or that
+-- of a file was played, or there was a race, and the input was not read.
+abbrev pub Did : Style → Task → Option (List ℕ) → Option (List ℕ) → Option (List ℕ)
+    → Option (List ℕ) → Type 0
+Did style Run told left before after = (events : ℕ) × RanToEnd told left before after events
+Did style (Play None) told left before after = PlayedScript style told before after
+Did style (Play (Some path)) told left before after = left ≡ told
+Did style (Race workers steps seed budget checkpoint) told left before after = (left ≡ told)
     × RanRace workers steps seed budget checkpoint before after

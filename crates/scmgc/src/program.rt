@@ -210,7 +210,7 @@ pub fn program<H: Threads + Wait + Sync + Files, S: AsStr, R: Read, W: Write, E:
 
     // The status is 0 only where the words name a task, and it was done to its end.
     ensures done { (result ≡ 0) → (asked : Asked) × Names (map S.text words.now) asked
-        × Did asked (R.remaining input.old.inner) (R.remaining input.new.inner)
+        × Did style asked (R.remaining input.old.inner) (R.remaining input.new.inner)
         (W.contents output.old.inner) (W.contents output.new.inner) }
 
     // Where the words ask for a run, there is one, unless there is no memory to read the words.
