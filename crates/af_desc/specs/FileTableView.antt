@@ -97,7 +97,8 @@ pub record AreChained (s : Slab Node) (m : Map FileRow) : Type 0 where
 
 -- Whether the file has a mark, and is not marked in this pass.
 abbrev pub is_white_in : ℕ → Map MarkView → ℕ → Bool
-is_white_in epoch marks f = option_map_or (λ x. not (is_mark (color_in epoch x))) (map.get marks f) false
+is_white_in epoch marks f =
+    option_map_or (λ x. not (is_mark (color_in epoch x))) (map.get marks f) false
 
 -- Whether a pass has still to mark the file, and a table holds it.
 abbrev pub is_due : ℕ → Map CountView → Map MarkView → ℕ → Bool

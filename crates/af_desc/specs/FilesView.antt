@@ -69,7 +69,8 @@ with_file_ref p f v = record v { counts = map.insert v.counts f (more p (count_i
 
 -- A place of this kind less holds the file.
 abbrev pub without_file_ref : Place → ℕ → FilesView → FilesView
-without_file_ref p f v = record v { counts = map.insert v.counts f (fewer p (count_in_map v.counts f)) }
+without_file_ref p f v =
+    record v { counts = map.insert v.counts f (fewer p (count_in_map v.counts f)) }
 
 -- A place of this kind is one in a table instead (accept(2), recvmsg(2)).
 abbrev pub with_moved_ref : Place → ℕ → FilesView → FilesView
@@ -95,7 +96,8 @@ popped s = record s { queue = drop 1 s.queue }
 
 -- These files and this user are those of the first message of a queue.
 abbrev pub IsFirst : List ℕ → ℕ → List Message → Type 0
-IsFirst files user queue = (bytes : List ℕ) × (queue ≡ record { bytes = bytes; attached = files; user = user } ∷ drop 1 queue)
+IsFirst files user queue = (bytes : List ℕ)
+    × (queue ≡ record { bytes = bytes; attached = files; user = user } ∷ drop 1 queue)
 
 -- The socket of this number among these files.
 abbrev pub socket_in : Map File → ℕ → Option Socket
@@ -167,8 +169,9 @@ AreWhite marks epoch bound next n = (bound ≤ next)
 -- Numbers begin at 1 and rise; the names are those of the files; one list has just the unreferenced
 -- files and one just the grey ones, with room for all, and for as many as the rows say; the embryos
 -- and the files that a pass has still to mark are at most the numbers kept.
-pub record FilesInvariant (rows : FileTableView) (unreferenced : List ℕ) (room : ℕ) (names : NamesView)
-    (next epoch : ℕ) (grey : List ℕ) (most embryos bound white : ℕ) : Type 0 where
+pub record FilesInvariant (rows : FileTableView) (unreferenced : List ℕ) (room : ℕ)
+    (names : NamesView) (next epoch : ℕ) (grey : List ℕ)
+    (most embryos bound white : ℕ) : Type 0 where
   pub last : rows.last + 1 ≡ next
   pub begins : map.contains_key rows.files 0 ≡ false
   pub named : AreNamed names rows.files

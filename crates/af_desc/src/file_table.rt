@@ -200,8 +200,8 @@ impl FileTable {
         file
     }
 
-    /// Removes a file whose queue is empty, and returns what it was: a plain file, if it is unknown.
-    /// Returns also whether it was known, and unmarked in this pass. Takes no memory.
+    /// Removes a file whose queue is empty, and returns what it was: a plain file, if it is
+    /// unknown. Returns also whether it was known, and unmarked in this pass. Takes no memory.
     #[inline(always)]
     #[tactic(auto, using(crate::proofs::FileTableView::chains, ordered_slab::proofs::Parts::parts))]
     pub fn remove(&mut self, file: &FileRef, epoch: u32) -> (FileKind, bool)
@@ -336,8 +336,8 @@ impl FileTable {
         pool::room(&mut self.nodes)
     }
 
-    /// Appends a message to the queue of that socket, which is not full. Cannot fail, since there is
-    /// room.
+    /// Appends a message to the queue of that socket, which is not full. Cannot fail, since there
+    /// is room.
     #[inline(always)]
     #[tactic(auto, using(crate::proofs::FileTableView::messages, ordered_slab::proofs::Parts::parts))]
     pub fn push_message(&mut self, file: &FileRef, message: Msg)

@@ -318,8 +318,8 @@ impl Files {
         self.rows.room_for_message()
     }
 
-    /// Appends a message to the queue of that socket, which is not full. Cannot fail, since there is
-    /// room.
+    /// Appends a message to the queue of that socket, which is not full. Cannot fail, since there
+    /// is room.
     #[inline(always)]
     pub fn push(&mut self, file: &FileRef, message: Msg)
         requires socket { is_none (socket_in self.old.files file.now) ≡ false }
