@@ -135,7 +135,7 @@ pub backlog_of_kind : (q : List Message) (o : Option Socket) → backlog_of (fil
 backlog_of_kind q None = refl
 backlog_of_kind q (Some e) = refl
 
--- What changes a socket keeps it one.
+-- A changed socket is still one.
 pub socket_kept : (g : Socket → Socket) (o : Option Socket) → is_some (option_map g o) ≡ is_some o
 socket_kept g None = refl
 socket_kept g (Some e) = refl

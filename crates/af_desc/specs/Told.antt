@@ -53,8 +53,8 @@ pub record AreTold (nodes : Slab Node) (rows : OrderedSlabView FileRow) (told : 
   pub each : told.tells_released ≡ true
       → AreReleased rows.values (rows.last + 1) (since_of told files next) told.released
 
--- Each row has a chain of its own, and the lists are right. Rows and lists have room for so many
--- files more.
+-- Each row has a chain of its own, and the lists are right. Rows and lists have this much room for
+-- further files.
 pub record FileTableInvariant (nodes : Slab Node) (rows : OrderedSlabView FileRow)
     (told : ToldListsView) (files : Map File) (next room : ℕ) : Type 0 where
   pub chained : AreChained nodes rows.values

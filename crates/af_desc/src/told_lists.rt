@@ -58,7 +58,7 @@ impl Model for ToldLists {
 }
 
 impl ToldLists {
-    /// Makes two empty lists, of which none is kept. Takes no memory.
+    /// Makes two empty lists, and keeps neither. Takes no memory.
     pub fn new(alloc: Global) -> ToldLists
         ensures { result ≡ record {
           tells_changed = false;
