@@ -142,9 +142,13 @@ module _ {nodes : Slab Node} {rows : OrderedSlabView FileRow} {told : ToldListsV
       others-there : (g : ℕ) (z : FileRow) → nat_eq g f ≡ false → map.get rows.values g ≡ Some z → file_in t z ≡ file_in nodes z
       others-there g z off is = ap (λ ms. file_of (option_map (refilled ms) z.kind)) (stays nodes t rows.values f x y at h.chained own others g z off is).1
 
-      -- Its file is as it was.
+      -- Its file is as it was, and as dirty.
+      pub kept-silent : y.dirty ≡ x.dirty → is_some y.kind ≡ is_some x.kind → file_in t y ≡ file_in nodes x → FileTableInvariant t (with_value rows f y) told files then room
+      kept-silent dirty socket file = shown t y chained-there others-there dirty socket (ap face_of file)
+
+      -- Nothing but its chain was written to, and its file is as it was.
       pub kept-moved : y ≡ record x { chain = y.chain } → file_in t y ≡ file_in nodes x → FileTableInvariant t (with_value rows f y) told files then room
-      kept-moved rest file = shown t y chained-there others-there (ap (λ r. r.dirty) rest) (ap (λ r. is_some r.kind) rest) (ap face_of file)
+      kept-moved rest = kept-silent (ap (λ r. r.dirty) rest) (ap (λ r. is_some r.kind) rest)
 
     -- A row that changed, and is in the list then.
     module _ (t : Slab Node) (z y : FileRow) (lists : ToldListsView) (dirty : x.dirty ≡ z.dirty) (row : y ≡ record z { dirty = y.dirty }) (sets : told.tells_changed ≡ true → is_some z.kind ≡ true → y.dirty ≡ true)

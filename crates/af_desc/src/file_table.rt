@@ -365,8 +365,9 @@ impl FileTable {
             (without_popped result) self.new.message_room }
     {
         let row = self.rows.get_mut(file)?;
+        let popped = row.pop(&mut self.nodes, attached)?;
         self.told.add_changed(row, file);
-        row.pop(&mut self.nodes, attached)
+        Some(popped)
     }
 
     /// Takes from the queue of that socket what a receive of at most this many bytes gives
