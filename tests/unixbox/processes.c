@@ -20,7 +20,7 @@ static void must_exit(pid_t child) {
 }
 
 /* Some of many children of one thread make a socket while all are alive. There are fewer where the
- * machine lets no more start. */
+ * machine lets no further one start. */
 static const char *check_children(void) {
     static pid_t children[CHILDREN];
     int gate[2], count = 0;
