@@ -52,8 +52,8 @@ fn takes_all<R: Wait>(rt: &R, layer: &Layer<AtCheckpoint>, seats: &mut [Seat]) -
         && takes(rt, layer, seats, 4, 0)
 }
 
-/// A layer keeps its engine and its log where it allows checkpoints, and each log begins where the
-/// one before ended.
+/// Shows that a layer keeps its engine and its log where it allows checkpoints, and that each log
+/// begins where the one before ended.
 #[test]
 fn logs_meet(rt: HostRuntime) -> Result<(), OpenError> {
     let (layer, mut seats) = Layer::open(rt.alloc(), 1)?;
