@@ -11,6 +11,7 @@ use Rattle.std.proofs.lemmas.List.{get_or-drop, get_or-take, length-drop, length
 use Rattle.std.proofs.lemmas.Option.{slice_get-get_or}
 use Rattle.af_base.proofs.Lookups.{told_apart, insert-here, insert-other, remove-here, remove-other}
 use Rattle.af_table.specs.Bits.{is_taken}
+use Rattle.af_table.specs.Rooms.{IsOpenFrom}
 use Rattle.af_table.specs.Slots.{table_from, table_of, NoneFrom}
 use Rattle.af_table.proofs.Blanks.{blank_at, blank_none, blank_cut, blank_installed, blank_taken_out}
 
@@ -187,3 +188,10 @@ pub ruleset table_frees = (none_there, taken_out, blank_taken_out)
 
 -- Slots come and go where no bit is set.
 pub ruleset table_cuts = (resized, cut, no_slots, blank_none, blank_cut)
+
+-- Each open descriptor is below the row, and so are those below it.
+pub room_below : (ws fs : List ℕ) (row n : ℕ) → row ≡ length fs → NoneFrom row ws → IsOpenFrom (table_of ws fs) n → n < row
+room_below ws fs row n len none held =
+    let taken = sym (open_as_marked ws fs row held.0 len none) ∙ held.2 in
+    let low = taken_low ws row held.0 none taken in
+    omega (arith, low, held.1)

@@ -3,3 +3,4 @@ pub mod Slots
 pub mod Free
 pub mod Procs
 pub mod Lending
+pub mod Rooms

@@ -1,12 +1,13 @@
 //! A process with its table.
 ghost use Rattle.std.specs.Prelude.{◌≡◌, ℕ, ◌+◌, ◌-◌, ◌≤◌, ◌<◌, [], ◌∷◌, length, slice_get, IfSome};
 ghost use Rattle.std.specs.Prelude.{IsTrue, IfNone, IfOk, OnOk, OnErr, IsOk, None, false, nat_le};
-ghost use Rattle.std.specs.Prelude.{true};
+ghost use Rattle.std.specs.Prelude.{nat_lt, true};
 ghost use Rattle.std.specs.FinMap as map;
 ghost use Rattle.af_base.specs.Changes.{installed, limited, taken_out};
 ghost use Rattle.af_base.specs.Table.{free_numbers, lowest_free};
 ghost use Rattle.af_table.specs.Bits.{is_taken};
 ghost use Rattle.af_table.specs.Free.{free_from};
+ghost use Rattle.af_table.specs.Rooms.{IsOpenFrom};
 
 use crate::bits::Bits;
 use af_base::ids::{Fd, FileRef, Ino, Uid};
@@ -138,9 +139,20 @@ impl Process {
     /// Returns whether it has room for each descriptor below the limit.
     #[inline(always)]
     pub fn has_room(&self) -> bool
-        ensures { result ≡ nat_le self.now.process.limit self.now.row }
+        ensures value { result ≡ nat_le self.now.process.limit self.now.row }
+        ensures open { IsOpenFrom self.now.process.table (self.now.process.limit - 1)
+            → result ≡ true }
     {
         self.slots.len() >= self.limit as usize
+    }
+
+    /// Returns whether it has room for this descriptor, as for each that is open, and below one.
+    #[inline(always)]
+    pub fn has_room_at(&self, fd: Fd) -> bool
+        ensures value { result ≡ nat_lt fd self.now.row }
+        ensures open { IsOpenFrom self.now.process.table fd → result ≡ true }
+    {
+        self.slots.len() > fd.0 as usize
     }
 
     /// Makes room for each descriptor below the limit, and adds none above it.

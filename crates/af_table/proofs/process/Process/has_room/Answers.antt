@@ -1,0 +1,13 @@
+use Rattle.std.proofs.Common.{rules, arith, ◌<◌, ◌-◌, ◌∙◌, sym, ap, subst}
+use Rattle.std.specs.Prelude.{vec_len}
+use Rattle.af_table.specs.Rooms.{IsOpenFrom}
+use Rattle.af_table.proofs.Tables.{room_below}
+use Rattle.af_table.proofs.process.Process.has_room.Goals as goal
+
+pub returns-clause-open : goal.returns-clause-open
+returns-clause-open c = λ held.
+    let slots = c.self.inside.slots in
+    let limit = c.self.inside.limit in
+    let inside = subst (λ q. IsOpenFrom q.process.table (q.process.limit - 1)) (sym c.self.view_is) held in
+    let low : limit - 1 < vec_len slots = room_below c.self.inside.taken.words slots.items _ (limit - 1) (search rules) c.self.invariant.2 inside in
+    search rules
