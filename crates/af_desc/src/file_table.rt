@@ -9,6 +9,7 @@ ghost use Rattle.af_base.specs.Refusals.{room_of};
 ghost use Rattle.af_base.specs.Told.{AreChanged, AreReleased};
 ghost use Rattle.af_base.specs.Whole.{IsMessageWithin};
 ghost use Rattle.af_base.specs.World.{untold};
+ghost use Rattle.af_base.specs.declared.events.SockType.TheVariants.{Seqpacket};
 ghost use Rattle.af_ledger.specs.Counted.{fewer, more, places_in, IsCountable, IsCounted};
 ghost use Rattle.af_ledger.specs.Tally.{count_in_map};
 ghost use Rattle.af_ledger.specs.declared.place.Place.TheVariants.{Table};
@@ -388,6 +389,8 @@ impl FileTable {
         ensures rest { OnOk result (self.new
             ≡ with_socket_and_room self.old file.now (received_from max) self.new.message_room) }
         ensures err { OnErr result (self.new ≡ self.old) }
+        ensures succeeds { IfSome (socket_in self.old.files file.now) (λ s.
+            s.kind ≡ Seqpacket) → IsOk result }
     {
         let Some(row) = self.rows.get_mut(file) else {
             return Ok(());

@@ -355,6 +355,8 @@ impl Files {
         ensures ok { OnOk result
             (self.new ≡ changed_queue (received_from max) file.now self.new.message_room self.old) }
         ensures err { OnErr result (self.new ≡ self.old) }
+        ensures succeeds { IfSome (socket_in self.old.files file.now) (λ s.
+            s.kind ≡ SockType.Seqpacket) → IsOk result }
     {
         self.rows.take(file, self.alloc, max, taken)
     }
