@@ -3,7 +3,7 @@
 //! `release` frees it; only `close` may remove one immediately, if it holds nothing.
 ghost use Rattle.std.specs.Prelude.{◌≡◌, ◌<◌, ◌≤◌, ◌+◌, ℕ, None, IsTrue, IfOk};
 ghost use Rattle.std.specs.Prelude.{IfSome, OnOk, OnErr, length, false, is_none, is_some};
-ghost use Rattle.std.specs.Prelude.{[], true};
+ghost use Rattle.std.specs.Prelude.{[], true, IsOk};
 ghost use Rattle.std.specs.List.{zip, Contains};
 ghost use Rattle.std.specs.FinMap as finmap;
 ghost use Rattle.af_base.specs.World as world;
@@ -14,6 +14,7 @@ ghost use Rattle.af_base.specs.Counts.{total};
 ghost use Rattle.af_base.specs.Refusals.{socket_at};
 ghost use Rattle.af_base.specs.Unheld.{Settles};
 ghost use Rattle.af_base.specs.Whole.{IsMessageWithin, IsSound};
+ghost use Rattle.af_base.specs.declared.events.SockType.TheVariants.{Seqpacket};
 ghost use Rattle.af_collect.specs.Limits.{IsBelowLimit, IsOfProcess};
 ghost use Rattle.af_collect.specs.Receiving.{CanReceive, taken_at};
 ghost use Rattle.af_collect.specs.Keeping.{NotBegunGarbage};
@@ -224,6 +225,8 @@ impl Store {
           message_room = self.new.message_room;
         }) }
         ensures err { OnErr result (self.new ≡ self.old) }
+        ensures succeeds { IfSome (socket_at self.old.world socket.now) (λ s.
+            s.kind ≡ Seqpacket) → IsOk result }
     {
         let holdings = &mut self.collector.holdings;
         holdings.files.take(socket, max, taken)?;
