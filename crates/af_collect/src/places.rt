@@ -76,30 +76,6 @@ impl Store {
         holdings.files.hold(&Place::Table, &file);
     }
 
-    /// Installs a live file at a descriptor below the limit, in place of the file that it referred
-    /// to, if any (dup2(2)): `room_for` and `replace` by one look at the process. On an error no
-    /// process can see a change.
-    #[inline(always)]
-    pub fn replace_at(&mut self, pid: Pid, fd: Fd, file: FileRef) -> Result<(), AllocError>
-        requires there { IsTrue (finmap.contains_key self.old.world.processes pid) }
-        requires limit { IsBelowLimit self.old.world pid fd }
-        requires live { world.IsLive self.old.world file }
-        requires spared { NotBegunGarbage self.old.pass file }
-        ensures ok { OnOk result (self.new ≡ record self.old {
-          world = install self.old.world pid fd file;
-          rows = self.new.rows;
-          marks = self.new.marks;
-        }) }
-        ensures err { OnErr result (self.new ≡ record self.old { rows = self.new.rows }) }
-    {
-        let holdings = &mut self.collector.holdings;
-        let process = holdings.procs.find_with_room(pid)?;
-        let was = process.replace(fd, file.duplicate());
-        drop_replaced(&self.collector.progress, &mut holdings.files, was);
-        holdings.files.hold(&Place::Table, &file);
-        Ok(())
-    }
-
     /// Closes a descriptor of a process, if it is open. Returns whether it was. Takes no memory.
     #[inline(always)]
     pub fn close_at(&mut self, pid: Pid, fd: Fd) -> bool

@@ -1,5 +1,5 @@
 -- The rest of an event's row after its look-ups.
-use Rattle.std.proofs.Common.{◌≡◌, ◌<◌, ◌≤◌, ℕ, [], ◌++◌, sym, ap, ◌∙◌, subst, arith}
+use Rattle.std.proofs.Common.{◌≡◌, ◌<◌, ℕ, [], ◌++◌, sym, ap, ◌∙◌, subst, arith}
 use Rattle.std.specs.Prelude.{Option, Some, None, IsTrue, is_some, unwrap_or}
 use Rattle.std.specs.FinMap as map
 use Rattle.std.specs.Option.{option_and_then, option_map_or}
@@ -13,6 +13,8 @@ use Rattle.af_base.proofs.PlaceMoves.{there-table}
 use Rattle.af_base.proofs.SoundSteps.{goes-on}
 use Rattle.af_collect.specs.Limits.{IsBelowLimit}
 use Rattle.af_steps.specs.Found.{HasDescriptor, HasProcess, HasSocket}
+use Rattle.af_steps.specs.Rooms.{HasOpenFrom}
+use Rattle.af_table.specs.Rooms.{IsOpenFrom}
 
 -- No socket was found: that refuses each step that asks for one.
 pub no-socket : (w : World) (p n : ℕ) (rest : RefusalRow) (e : Errno) → first_fit (on_process (map.get w.processes p) ++ at_socket w p n) ≡ Some e → first_fit (on_process (map.get w.processes p) ++ (at_socket w p n ++ rest)) ≡ Some e
@@ -55,9 +57,13 @@ module _ {w : World} {p : ℕ} {q : Process} (has : HasProcess w p q) where
   pub is-free : (n : ℕ) → map.get q.table n ≡ None → table_at w p n ≡ None
   is-free n free = (λ i. looks i n) ∙ free
 
-  -- Room for each number below its limit.
-  pub room-below : (n room : ℕ) → n < q.limit → (process_at w p).limit ≤ room → n < room
-  room-below n room low most = let same = ap (λ (x : Process). x.limit) is_process in omega (arith, low, most, same)
+  -- A number from which on a descriptor is open.
+  pub open-from : (n : ℕ) → HasOpenFrom w p n → IsOpenFrom q.table n
+  open-from n held = (held.0, held.1, subst (λ o. IsTrue (is_some o)) (λ i. looks i held.0) held.2)
+
+  -- A number below its limit, as the world has it.
+  pub under-limit : (n : ℕ) → n < q.limit → n < (process_at w p).limit
+  under-limit n low = subst (λ (x : Process). n < x.limit) (sym is_process) low
 
 module _ {w : World} {p : ℕ} {q : Process} {n f : ℕ} (has : HasDescriptor w p q n f) where
   -- The descriptor refers to the file.

@@ -11,7 +11,9 @@ use Rattle.af_base.specs.World.{Process, World}
 use Rattle.af_base.proofs.Free.{AreFree, first-free, first-low, free-lowest_free}
 use Rattle.af_base.proofs.Lookups.{none_some, some_same}
 use Rattle.af_steps.specs.Found.{HasProcess}
-use Rattle.af_steps.proofs.LookupRows.{is_process}
+use Rattle.af_steps.specs.Rooms.{HasOpenFrom}
+use Rattle.af_table.specs.Rooms.{IsOpenFrom}
+use Rattle.af_steps.proofs.LookupRows.{is_process, open-from}
 
 -- This is the lowest free number of the process.
 pub record IsLowest (q : Process) (n : ℕ) : Type 0 where
@@ -49,6 +51,10 @@ module _ {q : Process} {n : ℕ} (least : IsLowest q n) where
   -- It is the number that a step names.
   pub is-free_at : {w : World} {p : ℕ} → HasProcess w p q → free_at w p 0 ≡ n
   is-free_at has = ap (λ r. slice_index (free_numbers r) 0) (is_process has) ∙ (begins (free_numbers q) n least.read).1
+
+-- Where a number at or above the lowest free one is open, the table of the process has it.
+pub open-from-lowest : {w : World} {p : ℕ} {q : Process} {n : ℕ} → HasProcess w p q → IsLowest q n → HasOpenFrom w p (free_at w p 0) → IsOpenFrom q.table n
+open-from-lowest {w} {p} has least held = open-from has _ (subst (HasOpenFrom w p) (is-free_at least has) held)
 
 -- The lowest free numbers are below the room that was made for them.
 pub numbers-below : (q : Process) (ns : List ℕ) (count room : ℕ) → ns ≡ lowest_free count q → (0 < length ns → q.limit ≤ room) → All (λ n. n < room) ns

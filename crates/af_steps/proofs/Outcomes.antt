@@ -1,7 +1,8 @@
 -- A step that was done, one that is refused, and one for which memory was refused.
 use Rattle.std.proofs.Common.{◌≡◌, ℕ, false, refl, sym, ap, ◌∙◌, subst}
-use Rattle.std.specs.Prelude.{IfErr, IsErrAnd, Option, Some, None, Result, Ok, Err}
+use Rattle.std.specs.Prelude.{IfErr, IsErrAnd, IsOk, Option, Some, None, Result, Ok, Err}
 use Rattle.std.specs.Option.{ok_or}
+use Rattle.std.proofs.lemmas.Bool.{false≢true}
 use Rattle.af_base.specs.declared.errno.Errno.{Errno}
 use Rattle.af_base.specs.declared.errno.Errno.TheVariants.{ENOMEM}
 use Rattle.af_base.specs.declared.events.Reply.{Reply}
@@ -12,9 +13,11 @@ use Rattle.af_base.specs.Steps.{answer, effect, needs_no_memory}
 use Rattle.af_base.specs.Unheld.{Settles}
 use Rattle.af_base.specs.Whole.{IsSound}
 use Rattle.af_base.specs.World.{World}
+use Rattle.af_base.proofs.Lookups.{none_some}
 use Rattle.af_base.proofs.SettledWorlds.{settles_none}
 use Rattle.af_collect.specs.StoreView.{StoreView}
 use Rattle.af_steps.specs.Outcome.{Does, Refuses, error_of, step_error}
+use Rattle.af_steps.specs.Rooms.{CannotFail, HasRoom}
 
 -- An engine that shows `old`, and has this inside.
 module _ {inside old : Machine} (shown : inside ≡ old) (p : ℕ) (s : Step) where
@@ -31,6 +34,14 @@ module _ {inside old : Machine} (shown : inside ≡ old) (p : ℕ) (s : Step) wh
   -- No test fits, and the step changes nothing.
   pub does-nothing : (r : Reply) → refusal w p s ≡ None → answer w p s ≡ r → effect w p s ≡ w → IsSound w → Does old p s r old
   does-nothing r fits answers leads sound = subst (λ (m : Machine). Does m p s r m) shown (fits, sym answers, subst (λ v. Settles v w) (sym leads) (settles_none w sound.settled), (refl, refl, refl))
+
+  -- A test fits: so the step can fail.
+  pub not-refused : {X : Type 0} (answered : Result X Errno) (e : Errno) → refusal w p s ≡ Some e → CannotFail old.world p s → IsOk answered
+  not-refused answered e is sure = absurd (none_some e (sym sure.0 ∙ sym (ap (λ (m : Machine). refusal m.world p s) shown) ∙ is))
+
+  -- Room was refused, where there was none: so the step can fail.
+  pub not-starved : {X A E : Type 0} (answered : Result X Errno) {asked : Result A E} {e : E} → asked ≡ Err e → (HasRoom w p s → IsOk asked) → CannotFail old.world p s → IsOk answered
+  not-starved answered is ready sure = absurd (false≢true (subst IsOk is (ready (subst (λ (m : Machine). HasRoom m.world p s) (sym shown) sure.1))))
 
   module _ {X : Type 0} (new : Machine) (answered : Result X Errno) (same : new ≡ old) where
     -- The error that it answers is the one that can come.

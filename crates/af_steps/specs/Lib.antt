@@ -2,3 +2,4 @@ pub mod FileInfo
 pub mod Found
 pub mod MessageRoom
 pub mod Outcome
+pub mod Rooms

@@ -1,6 +1,6 @@
 //! The look-ups of an event, before its own tests.
 ghost use Rattle.std.specs.Prelude.{◌≡◌, ◌++◌, ◌∷◌, [], None, Some, false, IfErr, IfOk, OnOk};
-ghost use Rattle.std.specs.Prelude.{slice_get};
+ghost use Rattle.std.specs.Prelude.{◌<◌, IsOk, nat_lt, slice_get, true};
 ghost use Rattle.std.specs.FinMap as map;
 ghost use Rattle.af_base.specs.Places.{table_at};
 ghost use Rattle.af_base.specs.Refusals.{at_socket, first_fit, is_full, on_number, on_process};
@@ -15,6 +15,7 @@ use af_base::ids::{Fd, FileRef, Pid};
 use af_collect::Store;
 use af_desc::Socket;
 use af_table::Process;
+use std::alloc::AllocError;
 
 /// Returns the lowest free descriptor of the process, for a new file; or why there is none.
 #[inline(always)]
@@ -60,6 +61,7 @@ pub fn descriptors_for_pair(store: &Store, pid: Pid) -> Result<(Fd, Fd), Errno>
 pub fn file_on(store: &Store, pid: Pid, fd: Fd) -> Result<(&Process, FileRef), Errno>
     ensures found { IfOk result (λ found.
         HasDescriptor store.now.world pid found.0.now.process fd found.1) }
+    ensures row { IfOk result (λ found. room_at store.now pid ≡ found.0.now.row) }
     ensures refused { IfErr result (λ e. first_fit (on_process
         (map.get store.now.world.processes pid) ++ on_number (table_at store.now.world pid fd))
         ≡ Some e) }
@@ -84,4 +86,22 @@ pub fn socket_on(store: &Store, pid: Pid, on: Fd) -> Result<(&Process, FileRef, 
     let file = process.lookup(on).ok_or(Errno::EBADF)?;
     let socket = holdings.socket(&file).ok_or(Errno::ENOTSOCK)?;
     Ok((process, file, socket))
+}
+
+/// Reserves room to install at this descriptor of the process, which is below its limit, unless
+/// there is room, which the caller says. No process can see a change, also on an error.
+#[inline(always)]
+pub fn make_room_at(store: &mut Store, pid: Pid, fd: Fd, has_room: bool) -> Result<(), AllocError>
+    requires said { has_room ≡ nat_lt fd (room_at store.old pid) }
+    requires limit { fd < (process_at store.old.world pid).limit }
+    ensures world { store.new.world ≡ store.old.world }
+    ensures pass { store.new.pass ≡ store.old.pass }
+    ensures since { store.new.since ≡ store.old.since }
+    ensures row { OnOk result (fd < room_at store.new pid) }
+    ensures ready { has_room ≡ true → IsOk result }
+{
+    if has_room {
+        return Ok(());
+    }
+    store.room_for(pid, 1)
 }

@@ -1,14 +1,15 @@
 //! Steps that make sockets, name them and connect them.
-ghost use Rattle.std.specs.Prelude.{◌≡◌, ◌↔◌, None, Some, IfErr, IfOk, IsTrue, OnOk};
+ghost use Rattle.std.specs.Prelude.{◌≡◌, ◌↔◌, None, Some, IfErr, IfOk, IsOk, IsTrue, OnOk};
 ghost use Rattle.std.specs.List.{list_all};
 ghost use Rattle.af_base.specs.Names.{is_name, is_name_byte};
 ghost use Rattle.af_base.specs.Refusals.{first_fit, on_accept, on_bind, on_client, on_listen};
 ghost use Rattle.af_base.specs.Refusals.{on_listener, refusal};
 ghost use Rattle.af_steps.specs.Found.{HasListener};
 ghost use Rattle.af_steps.specs.Outcome.{Does, Refuses};
+ghost use Rattle.af_steps.specs.Rooms.{CannotFail};
 
 use crate::engine::Engine;
-use crate::lookups::{descriptor_for_file, descriptors_for_pair, socket_on};
+use crate::lookups::{descriptor_for_file, descriptors_for_pair, make_room_at, socket_on};
 use af_base::errno::Errno;
 use af_base::events::{Reply, SockType, State, Step};
 use af_base::ids::{Fd, FileRef, Pid};
@@ -97,13 +98,15 @@ impl Engine {
         ensures done { IfOk result (λ fd.
             Does self.old pid (Step.Accept on) (Reply.Fd fd) self.new) }
         ensures refused { IfErr result (λ e. Refuses self.old pid (Step.Accept on) e self.new) }
+        ensures succeeds { CannotFail self.old.world pid (Step.Accept on) → IsOk result }
     {
         let (process, file, socket) = socket_on(&self.store, pid, on)?;
         check_accept(&socket)?;
         let fd = process.lowest().ok_or(Errno::EMFILE)?;
+        let has_room = process.has_room_at(fd);
         // A file in a table is no garbage of a running pass.
         self.store.lemma_is_spared();
-        self.store.room_for(pid, 1)?;
+        make_room_at(&mut self.store, pid, fd, has_room)?;
         self.store.take_embryo(&file, pid, fd);
         self.store.release();
         Ok(fd)

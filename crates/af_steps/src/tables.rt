@@ -1,9 +1,10 @@
 //! Steps that start and end processes, and those that change only tables.
-ghost use Rattle.std.specs.Prelude.{◌≡◌, IfErr, IfOk, OnOk};
+ghost use Rattle.std.specs.Prelude.{IfErr, IfOk, IsOk, OnOk};
 ghost use Rattle.af_steps.specs.Outcome.{Does, Refuses, RefusesStart, Starts};
+ghost use Rattle.af_steps.specs.Rooms.{CannotFail};
 
 use crate::engine::Engine;
-use crate::lookups::{descriptor_for_file, file_on};
+use crate::lookups::{descriptor_for_file, file_on, make_room_at};
 use af_base::errno::Errno;
 use af_base::events::{Reply, Step};
 use af_base::ids::{Fd, Pid, Uid};
@@ -47,12 +48,14 @@ impl Engine {
         ensures done { IfOk result (λ fd.
             Does self.old pid (Step.Dup from) (Reply.Fd fd) self.new) }
         ensures refused { IfErr result (λ e. Refuses self.old pid (Step.Dup from) e self.new) }
+        ensures succeeds { CannotFail self.old.world pid (Step.Dup from) → IsOk result }
     {
         let (process, file) = file_on(&self.store, pid, from)?;
         let fd = process.lowest().ok_or(Errno::EMFILE)?;
+        let has_room = process.has_room_at(fd);
         // A file in a table is no garbage of a running pass.
         self.store.lemma_is_spared();
-        self.store.room_for(pid, 1)?;
+        make_room_at(&mut self.store, pid, fd, has_room)?;
         self.store.table_in(pid, fd, file);
         self.store.release();
         Ok(fd)
@@ -65,6 +68,7 @@ impl Engine {
         ensures done { IfOk result (λ fd.
             Does self.old pid (Step.Dup2 from to) (Reply.Fd fd) self.new) }
         ensures refused { IfErr result (λ e. Refuses self.old pid (Step.Dup2 from to) e self.new) }
+        ensures succeeds { CannotFail self.old.world pid (Step.Dup2 from to) → IsOk result }
     {
         let (process, file) = file_on(&self.store, pid, from)?;
         if to == from {
@@ -73,9 +77,11 @@ impl Engine {
         if to.0 >= process.limit() {
             return Err(Errno::EBADF);
         }
+        let has_room = process.has_room_at(to);
         // A file in a table is no garbage of a running pass.
         self.store.lemma_is_spared();
-        self.store.replace_at(pid, to, file)?;
+        make_room_at(&mut self.store, pid, to, has_room)?;
+        self.store.replace(pid, to, file);
         self.store.release();
         Ok(to)
     }

@@ -12,6 +12,6 @@ returns-then-len-eq0-clause-ended c =
 
 pub returns-clause-room : goal.returns-clause-room
 returns-clause-room c =
-    c.has_room.ensures
+    c.has_room.ensures.value
     ∙ ap (λ (x : Process). nat_le x.limit c.in_ok-process.process.now.row) (sym (is_process c.in_ok-process.ensures.found.number.process))
     ∙ sym (ap (nat_le (process_at c.args.store.now.world c.args.pid).limit) c.in_ok-process.ensures.row)
