@@ -1,4 +1,5 @@
 //! The limits: how many of each kind there may be, and the largest number of each kind.
+ghost use Rattle.std.specs.Prelude.{◌≡◌};
 
 /// Processes at once.
 pub const MAX_PROCESSES: usize = 1024;
@@ -44,3 +45,22 @@ pub const MAX_LOG: usize = 1_048_576;
 
 /// Seats of a layer.
 pub const MAX_SEATS: u32 = 64;
+
+/// Does nothing at run time. Shows the limits as numbers.
+pub fn lemma_limits()
+    ensures processes { MAX_PROCESSES ≡ 1024 }
+    ensures nofile { MAX_NOFILE ≡ 1024 }
+    ensures files { MAX_FILES ≡ 65536 }
+    ensures messages { MAX_MESSAGES ≡ 64 }
+    ensures bytes { MAX_BYTES ≡ 65536 }
+    ensures attached { SCM_MAX_FD ≡ 253 }
+    ensures backlog { MAX_BACKLOG ≡ 128 }
+    ensures inflight { MAX_INFLIGHT ≡ 1048576 }
+    ensures name { MAX_NAME ≡ 107 }
+    ensures pid { MAX_PID ≡ 1000000000 }
+    ensures ino { MAX_INO ≡ 1099511627775 }
+    ensures pass { MAX_PASS ≡ 1000000000000 }
+    ensures budget { MAX_BUDGET ≡ 65536 }
+    ensures log { MAX_LOG ≡ 1048576 }
+    ensures seats { MAX_SEATS ≡ 64 }
+{}

@@ -4,6 +4,7 @@ ghost use Rattle.scm_lines.specs.Meaning.{line_of};
 ghost use Rattle.scm_lines.specs.Says.{IsLine};
 ghost use Rattle.scm_lines.specs.Versions.{is_of_first, read_in};
 ghost use Rattle.scm_lines.specs.declared.line.Line.{Line};
+ghost use Rattle.scm_lines.specs.declared.line.TheConstants.{MAX_LINE};
 ghost use Rattle.scm_lines.specs.declared.version.Version.{Version};
 ghost use Rattle.scm_lines.specs.declared.version.Version.TheVariants as version;
 
@@ -27,4 +28,9 @@ pub fn version_1_is_read_in_any()
 pub fn version_1_has_no_other()
     ensures { (bytes : List ℕ) (said : Line) → read_in version.First bytes ≡ Some said
         → is_of_first said ≡ true }
+{}
+
+/// The longest line has 262,144 bytes.
+pub fn longest_line()
+    ensures { MAX_LINE ≡ 262144 }
 {}
