@@ -17,6 +17,12 @@ pub data Pass : Type 0 where
   Idle : Pass
   Running : (begun : World) → (spent : ℕ) → Pass
 
+-- A pass that runs has spent at most three units for each file of its begin (this project's profile:
+-- what a budget counts).
+abbrev pub IsInTime : Pass → Type 0
+IsInTime Idle = Unit {0}
+IsInTime (Running begun spent) = spent ≤ 3 * map.len begun.files
+
 -- The machine: the world, the pass, the number of the last pass (0 at first), and since when freed
 -- files and changed readiness are listed.
 pub record Machine : Type 0 where

@@ -8,6 +8,7 @@ use Rattle.std.proofs.lemmas.Bool.{false≢true}
 use Rattle.std.proofs.lemmas.List.Elements.{All-head, All-nil, All-tail}
 use Rattle.af_base.specs.declared.errno.Errno.{Errno}
 use Rattle.af_base.specs.declared.errno.Errno.TheVariants.{EBUSY, EIDLE, EINVAL, ENOMEM}
+use Rattle.af_base.specs.declared.events.Event.{Event}
 use Rattle.af_base.specs.declared.events.Event.TheVariants as event
 use Rattle.af_base.specs.declared.events.Reply.{Reply}
 use Rattle.af_base.specs.declared.events.Reply.TheVariants as reply
@@ -18,9 +19,9 @@ use Rattle.af_base.specs.World.{World}
 use Rattle.af_base.specs.Unheld.{Settles}
 use Rattle.af_base.specs.Refusals.{refusal, spawn_refusal}
 use Rattle.af_base.specs.Steps.{Outcome, answer, effect, needs_no_memory, spawned}
-use Rattle.af_base.specs.Pass.{Begins, GoesOn, Idle, Machine, Pass, Passes, PassesWhole, Purges, Running, Slices, emptied, next_pass}
+use Rattle.af_base.specs.Pass.{Begins, GoesOn, Idle, IsInTime, Machine, Pass, Passes, PassesWhole, Purges, Running, Slices, emptied, next_pass}
 use Rattle.af_base.specs.Reached.{Garbage, is_socket}
-use Rattle.af_base.specs.Run.{Run, RunEntry, fresh}
+use Rattle.af_base.specs.Run.{Run, RunEntry, Step, fresh}
 use Rattle.af_base.proofs.Runs.{run-append}
 use Rattle.af_base.specs.Whole.{IsSound, IsWhole}
 use Rattle.af_base.proofs.PurgedWorlds.{slice-by, sound-begins, sound-pass, sound-slice}
@@ -29,7 +30,7 @@ use Rattle.af_base.proofs.Soundness.{fresh_sound}
 use Rattle.af_base.proofs.SoundSteps.{sound-spawn, sound-step}
 use Rattle.af_laws.proofs.Decidability.{garbage_decided}
 use Rattle.af_laws.proofs.SettlingOutcome.{settles_to_some}
-use Rattle.af_laws.specs.Running.{EventsHaveReplies, EventsKeepSound, FreshIsSound, HasBudget, LeavesNoChoice, LogDetermines, RefusedChangesNothing, RepliesDetermine, RunsAreSound, RunsJoin}
+use Rattle.af_laws.specs.Running.{EventsHaveReplies, EventsKeepSound, FreshIsSound, HasBudget, LeavesNoChoice, LogDetermines, RefusedChangesNothing, RepliesDetermine, RunsAreInTime, RunsAreSound, RunsJoin}
 
 -- An outcome there is.
 outcome_some : (o : Option Errno) (frugal : Bool) (answer : Reply) (now old : World) → (r : Reply) × (new : World) × Outcome o frugal answer now old r new
@@ -256,3 +257,43 @@ run_sound old new (e ∷ log) sound run = run_sound run.0 new log (events_keep_s
 
 pub runs_are_sound : RunsAreSound
 runs_are_sound m log run = run_sound fresh m log fresh_sound run
+
+-- A collector's event leaves the pass in time.
+module _ (old new : Machine) (r : Reply) where
+  -- So does what changes nothing.
+  same_time : IsInTime old.pass → new ≡ old → IsInTime new.pass
+  same_time t e = subst (λ m. IsInTime m.pass) (sym e) t
+
+  begin_in_time : (p : Pass) → IsInTime old.pass → Begins p old r new → IsInTime new.pass
+  begin_in_time Idle t h = subst (λ m. IsInTime m.pass) (sym h.1) (omega arith)
+  begin_in_time (Running begun spent) t h = same_time t h.1
+
+  slice_in_time : (p : Pass) (b : ℕ) → IsInTime old.pass → GoesOn p old b r new → IsInTime new.pass
+  slice_in_time Idle b t h = same_time t h.1
+  slice_in_time (Running begun spent) b t h = elim (slice-by begun spent b old new r h) [
+    | inl refused ↦ same_time t refused.1
+    | inr made ↦ elim made.0.answered [
+      | inl works ↦ subst IsInTime (sym works.1) works.2
+      | inr done ↦ subst IsInTime (sym done.3) tt
+    ]
+  ]
+
+  pass_in_time : (p : Pass) → IsInTime old.pass → PassesWhole p old r new → IsInTime new.pass
+  pass_in_time Idle t h = subst IsInTime (sym h.1) tt
+  pass_in_time (Running begun spent) t h = same_time t h.1
+
+-- So does each event.
+event_in_time : (old new : Machine) (e : Event) (r : Reply) → IsInTime old.pass → Step old e r new → IsInTime new.pass
+event_in_time old new (event.Spawn uid nofile privileged) r t h = subst IsInTime (sym h.1.0) t
+event_in_time old new (event.Proc p s) r t h = subst IsInTime (sym h.1.0) t
+event_in_time old new event.Begin r t h = begin_in_time old new r old.pass t h
+event_in_time old new (event.Slice b) r t h = slice_in_time old new r old.pass b t h
+event_in_time old new event.Pass r t h = pass_in_time old new r old.pass t h
+
+-- A run from a machine in time leads to one.
+run_in_time : (old new : Machine) (log : List RunEntry) → IsInTime old.pass → Run old log new → IsInTime new.pass
+run_in_time old new [] t run = subst (λ m. IsInTime m.pass) (sym run) t
+run_in_time old new (e ∷ log) t run = run_in_time run.0 new log (event_in_time old run.0 e.0 e.1 t run.1) run.2
+
+pub runs_are_in_time : RunsAreInTime
+runs_are_in_time m log run = run_in_time fresh m log tt run

@@ -9,7 +9,7 @@ use Rattle.af_base.specs.declared.errno.Errno.{Errno}
 use Rattle.af_base.specs.declared.events.Reply.{Reply}
 use Rattle.af_base.specs.declared.events.Reply.TheVariants as reply
 use Rattle.af_base.specs.declared.limits.TheConstants.{MAX_BUDGET}
-use Rattle.af_base.specs.Pass.{Idle, Machine, Pass, Running}
+use Rattle.af_base.specs.Pass.{Idle, IsInTime, Machine, Pass, Running}
 use Rattle.af_base.specs.Run.{Run, RunEntry, Step, fresh}
 use Rattle.af_base.specs.Whole.{IsSound}
 use Rattle.af_base.specs.World.{empty_world}
@@ -77,3 +77,8 @@ EventsKeepSound = (old new : Machine) (e : Event) (r : Reply) → IsSound old.wo
 -- So every run from the beginning leads to a sound world.
 abbrev pub RunsAreSound : Type 0
 RunsAreSound = (m : Machine) (log : List RunEntry) → Run fresh log m → IsSound m.world
+
+-- On every run from the beginning, a pass that still runs has spent at most three units for each
+-- file of its begin.
+abbrev pub RunsAreInTime : Type 0
+RunsAreInTime = (m : Machine) (log : List RunEntry) → Run fresh log m → IsInTime m.pass

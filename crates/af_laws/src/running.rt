@@ -2,6 +2,7 @@
 ghost use Rattle.af_laws.specs.Running.{EventsHaveReplies, RepliesDetermine, LogDetermines};
 ghost use Rattle.af_laws.specs.Running.{RefusedChangesNothing, RunsJoin};
 ghost use Rattle.af_laws.specs.Running.{FreshIsSound, EventsKeepSound, RunsAreSound};
+ghost use Rattle.af_laws.specs.Running.{RunsAreInTime};
 
 /// From every machine whose world is sound each event has a reply and leads somewhere, but for a
 /// slice whose budgets are spent.
@@ -42,4 +43,10 @@ pub fn events_keep_sound()
 /// Every run from the beginning leads to a sound world.
 pub fn runs_are_sound()
     ensures { RunsAreSound }
+{}
+
+/// On every run from the beginning, a pass that still runs has spent at most three units for each
+/// file of its begin.
+pub fn runs_are_in_time()
+    ensures { RunsAreInTime }
 {}
