@@ -1,12 +1,12 @@
 -- The pass that a caller sees, what it counts, and what a slice answers.
-use Rattle.std.proofs.Common.{◌≡◌, ◌+◌, ◌&&◌, ℕ, Bool, true, false, not, refl, ap, ◌∙◌, nat_lt, inr}
+use Rattle.std.proofs.Common.{arith, ◌≡◌, ◌+◌, ◌&&◌, ℕ, Bool, true, false, not, refl, ap, ◌∙◌, nat_lt, inr}
 use Rattle.std.specs.Prelude.{Option, Some, None, is_some, if◌then◌else◌}
 use Rattle.std.specs.FinMap as map
 use Rattle.std.specs.Option.{option_and_then, option_map_or}
 use Rattle.std.proofs.Math.Bool.{and_comm}
 use Rattle.std.proofs.lemmas.Bool.{false≢true}
 use Rattle.af_base.specs.World.{AsSocket, File, Plain, World, IsLive}
-use Rattle.af_base.specs.Pass.{Idle, Pass, Running, Slices}
+use Rattle.af_base.specs.Pass.{Idle, IsInTime, Pass, Running, Slices}
 use Rattle.af_base.specs.Reached.{is_socket, Garbage, IsGarbageCount}
 use Rattle.af_base.specs.Refusals.{socket_of}
 use Rattle.af_base.specs.declared.events.Reply.TheVariants as reply
@@ -15,7 +15,7 @@ use Rattle.af_desc.specs.FilesView.{is_unmarked_socket}
 use Rattle.af_collect.specs.declared.progress.Stage.{Stage}
 use Rattle.af_collect.specs.declared.progress.Stage.TheVariants.{Marking, Resting, Sweeping}
 use Rattle.af_collect.specs.declared.progress.PassProgress.{PassProgress}
-use Rattle.af_collect.specs.Keeping.{counted, is_sweeping, pass_of, runs}
+use Rattle.af_collect.specs.Keeping.{IsStage, PassInvariant, counted, is_sweeping, pass_of, runs}
 use Rattle.af_collect.specs.Purged.{ArePurged}
 
 -- The world at the begin of a pass that runs.
@@ -51,3 +51,11 @@ slices_done begun begun' w v k k' b pass n p none count = record {
   purged = p.purged;
   answered = inr (n, count, refl, refl, none);
 }
+
+-- A pass that keeps its invariant is in time.
+pub in_time : (w begun : World) (m : MarksView) (c : PassProgress) → PassInvariant w begun m c → IsInTime (pass_of c.stage begun c.looked)
+in_time w begun m c kept = by c.stage kept.stage where
+  by : (s : Stage) → IsStage s w begun m c → IsInTime (pass_of s begun c.looked)
+  by Resting i = tt
+  by Marking i = omega (arith, i.running.counted.at_most)
+  by Sweeping i = omega (arith, i.running.counted.at_most)

@@ -1,7 +1,7 @@
 //! A pass of the collector: it begins, proceeds by slices, and is done; or runs whole.
 ghost use Rattle.std.specs.Prelude.{◌≡◌, ◌≤◌, ◌+◌, ℕ, IfSome, false, true};
 ghost use Rattle.af_base.specs.World.{World};
-ghost use Rattle.af_base.specs.Pass.{Idle, Running, Slices};
+ghost use Rattle.af_base.specs.Pass.{Idle, IsInTime, Running, Slices};
 ghost use Rattle.af_base.specs.Unheld.{Settles};
 ghost use Rattle.af_base.specs.Whole.{IsSound};
 ghost use Rattle.af_mark.specs.MarksView.{is_marked, is_unmarked};
@@ -30,10 +30,11 @@ impl Store {
     }
 
     /// Does nothing at run time. Shows what a running pass keeps between any two calls: of its
-    /// marks, and of how far it is.
+    /// marks, of how far it is, and that it is in time.
     pub fn lemma_pass(&self)
-        ensures { (begun : World) (spent : ℕ) → self.now.pass ≡ Running begun spent
+        ensures kept { (begun : World) (spent : ℕ) → self.now.pass ≡ Running begun spent
             → PassInvariant self.now.world begun self.now.marks self.now.progress }
+        ensures in_time { IsInTime self.now.pass }
     {
         // The invariant says it: reading a field gives it to the prover.
         let _collector = &self.collector;

@@ -63,6 +63,7 @@ pub struct RunStopped {
 }
 
 impl Engine {
+    ghost use Rattle.af_base.specs.Pass.{IsInTime};
     ghost use Rattle.af_base.specs.Whole.{IsSound};
 
     /// Makes an engine to which nothing has happened: the fresh machine.
@@ -178,12 +179,14 @@ impl Engine {
     }
 
     /// Does nothing at run time. Shows that the engine's world is well-formed, within all limits,
-    /// and settled, whatever happened before.
+    /// and settled, whatever happened before; and that a pass that runs has spent at most three
+    /// units for each file of its begin.
     pub fn lemma_is_sound(&self)
-        ensures { IsSound self.now.world }
+        ensures sound { IsSound self.now.world }
+        ensures in_time { IsInTime self.now.pass }
     {
-        // The invariant says it: reading a field gives it to the prover.
-        let _store = &self.store;
+        // The invariants of the engine and of its store say it.
+        self.store.lemma_pass();
     }
 }
 

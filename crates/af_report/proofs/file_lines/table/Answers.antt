@@ -12,7 +12,7 @@ pub loop-file-init : goal.loop-file-init
 loop-file-init c =
     let w = c.args.engine.now.world in
     let begun : c.in_ok-text.text.items ≡ header = search rules in
-    ap (λ text. text ++ flat_map (line w) (above 0 (map.entries w.files))) begun ∙ ap (λ es. header ++ flat_map (line w) es) (all_entries w.files w.files refl (none_at_zero w c.lemma_is_sound.ensures.whole))
+    ap (λ text. text ++ flat_map (line w) (above 0 (map.entries w.files))) begun ∙ ap (λ es. header ++ flat_map (line w) es) (all_entries w.files w.files refl (none_at_zero w c.lemma_is_sound.ensures.sound.whole))
 
 pub loop-file-preserved : goal.loop-file-preserved
 loop-file-preserved c =

@@ -25,7 +25,7 @@ loop-file-init c =
     let none = c.new-files.ensures.items in
     record {
       recounts = subst (λ xs. All (IsFileRecount w) xs) (sym none) (All-nil (IsFileRecount w));
-      so_far = ap (λ xs. map ino xs ++ map number (above 0 (finmap.entries w.files))) none ∙ ap (map number) (all_entries w.files w.files refl (none_at_zero w c.lemma_is_sound.ensures.whole));
+      so_far = ap (λ xs. map ino xs ++ map number (above 0 (finmap.entries w.files))) none ∙ ap (map number) (all_entries w.files w.files refl (none_at_zero w c.lemma_is_sound.ensures.sound.whole));
     }
 
 pub loop-file-preserved : goal.loop-file-preserved

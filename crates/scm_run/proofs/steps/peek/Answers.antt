@@ -5,7 +5,7 @@ use Rattle.scm_run.proofs.StepLemmas.{got_short, step_done}
 use Rattle.scm_run.proofs.steps.peek.Goals as goal
 
 pub push_received-requires-clause-short : goal.push_received-requires-clause-short
-push_received-requires-clause-short c = got_short c.args.engine.now c.peek-2.new.self c.args.pid _ c.peek-2.result _ c.in-Some.ensures c.lemma_is_sound.ensures c.peek-2.ensures.done
+push_received-requires-clause-short c = got_short c.args.engine.now c.peek-2.new.self c.args.pid _ c.peek-2.result _ c.in-Some.ensures c.lemma_is_sound.ensures.sound c.peek-2.ensures.done
 
 pub returns : goal.returns
 returns c = step_done verb.Peek verb.Peek _ _ _ c.args.rest.now _ _ _ c.peek-2.result got_reply refl c.in-Some.ensures c.peek-2.ensures.done c.peek-2.ensures.refused c.push_received.ensures

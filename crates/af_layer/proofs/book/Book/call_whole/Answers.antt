@@ -26,7 +26,7 @@ returns-then-is_err-clause-refused c =
 
 pub copy-logged-requires : goal.copy-logged-requires
 copy-logged-requires c =
-    replies_fit c.in-Ok.room c.self.inside.engine c.args.event c.step-reply.result c.step-reply.new.self c.lemma_is_sound.ensures (omega (arith, c.in-Ok.ensures.bytes)) (omega (arith, c.in-Ok.ensures.fds)) c.step-reply.ensures
+    replies_fit c.in-Ok.room c.self.inside.engine c.args.event c.step-reply.result c.step-reply.new.self c.lemma_is_sound.ensures.sound (omega (arith, c.in-Ok.ensures.bytes)) (omega (arith, c.in-Ok.ensures.fds)) c.step-reply.ensures
 
 pub returns-clause-refused : goal.returns-clause-refused
 returns-clause-refused c =

@@ -11,7 +11,7 @@ use Rattle.af_report.proofs.picture.files.push_files.Goals as goal
 pub loop-file-init : goal.loop-file-init
 loop-file-init c =
     let w = c.args.engine.now.world in
-    ap (λ es. string_bytes c.args.text.now ++ flat_map (λ e. file_text w (is_in c.args.garbage.now e.0) e.0 e.1) es) (all_entries w.files w.files refl (none_at_zero w c.lemma_is_sound.ensures.whole))
+    ap (λ es. string_bytes c.args.text.now ++ flat_map (λ e. file_text w (is_in c.args.garbage.now e.0) e.0 e.1) es) (all_entries w.files w.files refl (none_at_zero w c.lemma_is_sound.ensures.sound.whole))
 
 pub loop-file-preserved : goal.loop-file-preserved
 loop-file-preserved c =

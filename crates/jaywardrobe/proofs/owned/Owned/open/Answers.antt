@@ -9,7 +9,7 @@ use Rattle.jaywardrobe.proofs.owned.Owned.open.Goals as goal
 pub push-requires : goal.push-requires
 push-requires g c =
     let next = ap (λ (w : World). w.next_ino) c.in-Ok.ensures.done.2.2 in
-    let inos = c.lemma_is_sound.ensures.within.inos in
+    let inos = c.lemma_is_sound.ensures.sound.within.inos in
     record {
       room = search (rules, arith);
       above = search (rules, arith);
