@@ -16,7 +16,7 @@ pub struct Chain {
     pub first: u32,
     pub last: u32,
     pub len: u8,
-    /// Whether one of them may have attached files. If not, a search for files skips the queue.
+    /// Whether a message may have attached files. If not, a search for files skips the queue.
     pub has_files: bool,
 }
 

@@ -20,7 +20,7 @@ pub type Attached = SmallVec<FileRef, 2>;
 #[derive(Drop)]
 pub struct Msg {
     bytes: Bytes,
-    /// How many of its first bytes were received before.
+    /// How many of the first bytes were received before.
     begin: u32,
     user: Uid,
     attached: Attached,
@@ -45,7 +45,7 @@ impl Model for Msg {
 }
 
 impl Msg {
-    /// Makes a message of these parts, at most 65,536 bytes and 253 files. Takes no memory.
+    /// Makes a message of at most 65,536 bytes and 253 files. Takes no memory.
     #[inline(always)]
     pub fn new(bytes: Bytes, attached: Attached, user: Uid) -> Msg
         requires long { length bytes ≤ MAX_BYTES }
@@ -60,7 +60,7 @@ impl Msg {
         }
     }
 
-    /// Returns its bytes that were not received yet.
+    /// Returns the bytes that were not received yet.
     #[inline(always)]
     pub fn bytes(&self) -> &[u8]
         ensures { result.now ≡ self.now.bytes }
@@ -68,7 +68,7 @@ impl Msg {
         &self.bytes.as_slice()[self.begin as usize..]
     }
 
-    /// Returns how many bytes those are.
+    /// Returns how many bytes were not received yet.
     #[inline(always)]
     pub fn len(&self) -> usize
         ensures { result ≡ length self.now.bytes }
@@ -76,7 +76,7 @@ impl Msg {
         self.bytes.len() - self.begin as usize
     }
 
-    /// Returns its attached files.
+    /// Returns the attached files.
     #[inline(always)]
     pub fn attached(&self) -> &[FileRef]
         ensures value { result.now ≡ self.now.attached }
@@ -85,7 +85,7 @@ impl Msg {
         self.attached.as_slice()
     }
 
-    /// Returns whether it has attached files.
+    /// Returns whether the message has attached files.
     #[inline(always)]
     pub fn has_files(&self) -> bool
         ensures { result ≡ has_files self.now }
@@ -93,7 +93,7 @@ impl Msg {
         !self.attached.is_empty()
     }
 
-    /// Returns the user who is charged for its attached files.
+    /// Returns the user who is charged for the attached files.
     #[inline(always)]
     pub fn user(&self) -> Uid
         ensures { result ≡ self.now.user }
@@ -101,7 +101,7 @@ impl Msg {
         self.user
     }
 
-    /// Removes its first bytes. Takes no memory.
+    /// Removes the first `bytes` bytes. Takes no memory.
     #[inline(always)]
     pub(crate) fn drop_front(&mut self, bytes: usize)
         requires { bytes ≤ length self.old.bytes }
@@ -111,7 +111,7 @@ impl Msg {
         self.begin = begin as u32;
     }
 
-    /// Exchanges its attached files for these. Takes no memory.
+    /// Exchanges the attached files for `files`. Takes no memory.
     #[inline(always)]
     pub fn swap_attached(&mut self, files: &mut Attached)
         requires few { small_vec_len files.old ≤ SCM_MAX_FD }
@@ -122,7 +122,7 @@ impl Msg {
         mem::swap(&mut self.attached, files);
     }
 
-    /// Copies its first bytes: this many, or all if it has fewer.
+    /// Copies the first `count` bytes, or all if there are fewer.
     fn copy_front(&self, alloc: Global, count: usize) -> Result<Bytes, AllocError>
         ensures { IfOk result (λ front. front ≡ take count self.now.bytes) }
     {
@@ -130,7 +130,7 @@ impl Msg {
         Ok(Items::of_small(SmallVec::from_slice(alloc, front)?))
     }
 
-    /// Copies its attached files. Two need no memory.
+    /// Copies the attached files. Two need no memory.
     pub(crate) fn copy_attached(&self, alloc: Global) -> Result<Attached, AllocError>
         ensures value { IfOk result (λ files. files.items ≡ self.now.attached) }
         ensures bound { IfOk result (λ files. small_vec_len files ≤ SCM_MAX_FD) }
@@ -142,7 +142,7 @@ impl Msg {
         Ok(files)
     }
 
-    /// Copies what a receive of at most this many bytes takes of it as a packet.
+    /// Copies what a receive of at most `max` bytes takes of a packet.
     pub(crate) fn peek(&self, alloc: Global, max: usize) -> Result<Taken, AllocError>
         ensures { IfOk result (λ t. t ≡ record {
           message = record self.now { bytes = take max self.now.bytes };
@@ -154,8 +154,7 @@ impl Msg {
         Ok(Taken::new(bytes, attached, self.user(), self.len() > max))
     }
 
-    /// Writes the result of receiving it as a packet: its attached files, and its first bytes, at
-    /// most this many. Takes no memory.
+    /// Moves what a receive of at most `max` bytes takes of a packet to `taken`. Takes no memory.
     #[inline(always)]
     pub(crate) fn give(self, max: usize, taken: &mut Taken)
         requires empty { taken.old ≡ nothing_received }

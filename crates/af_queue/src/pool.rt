@@ -34,7 +34,7 @@ pub fn room(nodes: &mut Slab<Node>) -> Result<(), AllocError>
     nodes.reserve(1)
 }
 
-/// Appends a message to this chain, which is not full. It cannot fail, since there is room.
+/// Appends a message to `chain`, which is not full. Cannot fail, since there is room.
 #[inline(always)]
 pub fn push(nodes: &mut Slab<Node>, chain: &mut Chain, message: Msg)
     requires chain { IsChain nodes.old chain.old }
@@ -64,7 +64,7 @@ pub fn push(nodes: &mut Slab<Node>, chain: &mut Chain, message: Msg)
     chain.has_files |= has_files;
 }
 
-/// Links the node at this key to the next one.
+/// Links the node at `key` to the one at `next`.
 #[inline(always)]
 fn link(nodes: &mut Slab<Node>, key: u32, next: u32)
     ensures linked { (x : Node) → slots.get nodes.old key ≡ Some x
@@ -77,7 +77,7 @@ fn link(nodes: &mut Slab<Node>, key: u32, next: u32)
     }
 }
 
-/// Removes the first message of this chain, if there is one. Takes no memory.
+/// Removes the first message of `chain`, if there is one. Takes no memory.
 #[inline(always)]
 pub fn pop(nodes: &mut Slab<Node>, chain: &mut Chain) -> Option<Msg>
     requires chain { IsChain nodes.old chain.old }
@@ -99,8 +99,8 @@ pub fn pop(nodes: &mut Slab<Node>, chain: &mut Chain) -> Option<Msg>
     Some(node.message)
 }
 
-/// Takes what a receive of at most this many bytes gives (recvmsg(2)) from this chain:
-/// of packets (SOCK_SEQPACKET) the first, without memory; of a stream (SOCK_STREAM) bytes across
+/// Moves what a receive of at most `max` bytes gives (recvmsg(2)) from `chain` to `taken`: of
+/// packets (SOCK_SEQPACKET) the first, without memory; of a stream (SOCK_STREAM) bytes across
 /// messages, up to the end of the first one with files. On an error nothing has changed.
 #[inline(always)]
 pub fn take(
@@ -135,7 +135,7 @@ pub fn take(
     }
 }
 
-/// Takes a packet: the first message, cut to this many bytes.
+/// Takes a packet: the first message, cut to `max` bytes.
 #[inline(always)]
 fn take_packet(nodes: &mut Slab<Node>, chain: &mut Chain, max: usize, taken: &mut Taken)
     requires chain { IsChain nodes.old chain.old }
@@ -194,8 +194,8 @@ fn take_stream(
     Ok(())
 }
 
-/// Removes this many of the first bytes, and the files of the message that has the last of them.
-/// Takes these files, with the user who sent them.
+/// Removes the first `count` bytes. Moves the files of the message that has the last of them, and
+/// their sender, to `taken`.
 fn cut(nodes: &mut Slab<Node>, chain: &mut Chain, count: usize, taken: &mut Taken)
     requires chain { IsChain nodes.old chain.old }
     requires some { 0 < count }
@@ -215,7 +215,7 @@ fn cut(nodes: &mut Slab<Node>, chain: &mut Chain, count: usize, taken: &mut Take
     cut_first(nodes, chain, left, taken);
 }
 
-/// Removes the first message, if it has fewer bytes than this. Returns how many are left to remove.
+/// Removes the first message, if it has fewer bytes than `count`. Returns how many more to remove.
 fn drop_shorter(nodes: &mut Slab<Node>, chain: &mut Chain, count: usize) -> Option<usize>
     requires chain { IsChain nodes.old chain.old }
     ensures cut { IfSome result (λ rest.
@@ -241,8 +241,8 @@ fn drop_shorter(nodes: &mut Slab<Node>, chain: &mut Chain, count: usize) -> Opti
     Some(count - size)
 }
 
-/// Removes this many bytes of the first message of this chain, which has at least as many, and its
-/// files. Takes these files, with the user who sent it. Removes the message if no byte is left.
+/// Removes `count` bytes from the first message, which has at least that many, and moves its files
+/// and sender to `taken`. Removes the message if no byte is left.
 fn cut_first(nodes: &mut Slab<Node>, chain: &mut Chain, count: usize, taken: &mut Taken)
     requires chain { IsChain nodes.old chain.old }
     requires some { 0 < count }
@@ -266,8 +266,8 @@ fn cut_first(nodes: &mut Slab<Node>, chain: &mut Chain, count: usize, taken: &mu
     }
 }
 
-/// Removes this many bytes of the first message of this chain, which has more, and its files.
-/// Takes these files, with the user who sent it. Takes no memory.
+/// Removes `count` bytes from the first message, which has more, and moves its files and sender to
+/// `taken`. Takes no memory.
 #[inline(always)]
 fn shorten_first(nodes: &mut Slab<Node>, chain: &Chain, count: usize, taken: &mut Taken)
     requires chain { IsChain nodes.old chain.now }

@@ -49,7 +49,7 @@ impl<'a> Model for Queue<'a> {
 }
 
 impl<'a> Queue<'a> {
-    /// Lends the messages of this chain.
+    /// Lends the messages of `chain`.
     #[inline(always)]
     pub fn of(nodes: &'a Slab<Node>, chain: &Chain) -> Queue<'a>
         requires chain { IsChain nodes.now chain.now }
@@ -62,7 +62,7 @@ impl<'a> Queue<'a> {
         }
     }
 
-    /// Returns how many messages it has.
+    /// Returns how many messages the queue has.
     #[inline(always)]
     pub fn len(&self) -> usize
         ensures value { result ≡ length self.now }
@@ -83,7 +83,7 @@ impl<'a> Queue<'a> {
         }
     }
 
-    /// Returns the first message, if there is one, and those behind it.
+    /// Returns the first message, if there is one, and the rest of the queue.
     #[inline(always)]
     pub fn split_first(&self) -> Option<(&'a Msg, Queue<'a>)>
         ensures some { IfSome result (λ r. self.now ≡ r.0.now ∷ r.1) }
@@ -110,8 +110,8 @@ impl<'a> Queue<'a> {
         Some(message)
     }
 
-    /// Returns the files attached to its messages, from this position among them on, 16 at most.
-    /// For a caller that cannot keep the queue while it looks at them. Takes no memory.
+    /// Returns at most 16 of the files attached to the messages, from the position `from` on, for a
+    /// caller that cannot keep the queue while it looks at them. Takes no memory.
     pub fn attached_from(&self, from: usize) -> ArrayVec<FileRef, BATCH>
         ensures files { result.items ≡ take BATCH (drop from (attached_in self.now)) }
         ensures few { length (attached_in self.now) ≤ MAX_MESSAGES * SCM_MAX_FD }
@@ -138,8 +138,8 @@ impl<'a> Queue<'a> {
         files
     }
 
-    /// Returns how many files a receive of at most this many bytes takes: those of one message at
-    /// most. Looks only at messages that the receive takes bytes of.
+    /// Returns how many files a receive of at most `max` bytes takes: those of one message at most.
+    /// Looks only at messages that the receive takes bytes of.
     #[inline(always)]
     pub fn files_in_receive(&self, kind: SockType, max: usize) -> usize
         requires { 0 < max }
@@ -152,8 +152,8 @@ impl<'a> Queue<'a> {
         }
     }
 
-    /// Copies what a receive of at most this many bytes would take (recvmsg(2), MSG_PEEK); the
-    /// queue stays as it is. Takes memory for the copy alone.
+    /// Copies what a receive of at most `max` bytes would take (recvmsg(2), MSG_PEEK); the queue
+    /// stays as it is. Takes memory for the copy alone.
     pub fn peek(&self, alloc: Global, kind: SockType, max: usize) -> Result<Taken, AllocError>
         requires { 0 < max }
         ensures { IfOk result (λ t. t ≡ received kind self.now max) }
@@ -164,7 +164,7 @@ impl<'a> Queue<'a> {
         }
     }
 
-    /// Copies the first message, cut to this many bytes.
+    /// Copies the first message, cut to `max` bytes.
     fn peek_packet(&self, alloc: Global, max: usize) -> Result<Taken, AllocError>
         ensures { IfOk result (λ t. t ≡ received SockType.Seqpacket self.now max) }
     {
@@ -188,7 +188,7 @@ impl<'a> Queue<'a> {
         Ok(Taken::new(Items::of(bytes), attached, user, false))
     }
 
-    /// Returns the message that has this byte, counted from 1.
+    /// Returns the message that has the byte `byte`, counted from 1.
     fn message_with(&self, byte: usize) -> Option<&'a Msg>
         ensures { option_copied result ≡ message_at byte self.now }
     {
@@ -226,8 +226,8 @@ impl<'a> Queue<'a> {
         }
     }
 
-    /// Returns how many bytes a receive of at most this many takes of a stream, and how many files
-    /// come with the last of them.
+    /// Returns how many bytes a receive of at most `max` takes of a stream, and how many files come
+    /// with the last of them.
     pub(crate) fn stream_cut(&self, max: usize) -> (usize, usize)
         ensures bytes { result.0 ≡ stream_cut max self.now }
         ensures within { AreWithin self.now }
@@ -248,7 +248,7 @@ impl<'a> Queue<'a> {
         (bytes, 0)
     }
 
-    /// Copies this many of the first bytes.
+    /// Copies the first `count` bytes.
     #[inline(always)]
     pub(crate) fn copy(&self, alloc: Global, count: usize) -> Result<Vec<u8>, AllocError>
         ensures { IfOk result (λ v. v.items ≡ take count (joined self.now)) }
@@ -266,7 +266,7 @@ impl<'a> Queue<'a> {
     }
 }
 
-/// Appends as many of these files as fit.
+/// Appends as many of `attached` as fit.
 fn fill(files: &mut ArrayVec<FileRef, BATCH>, attached: &[FileRef])
     requires { length files.old.items ≤ BATCH }
     ensures fits { length files.new.items ≤ BATCH }

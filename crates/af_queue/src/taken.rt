@@ -38,7 +38,7 @@ impl Model for Taken {
 }
 
 impl Taken {
-    /// Makes a result of these parts.
+    /// Makes a result of its parts.
     #[inline(always)]
     pub(crate) fn new(bytes: Bytes, attached: Attached, user: Uid, trunc: bool) -> Taken
         requires few { small_vec_len attached ≤ SCM_MAX_FD }
@@ -63,7 +63,7 @@ impl Taken {
         Taken::new(bytes, SmallVec::new(alloc), Uid(0), false)
     }
 
-    /// Appends copies of these bytes. On an error nothing has changed.
+    /// Appends copies of `bytes`. On an error nothing has changed.
     #[inline(always)]
     pub(crate) fn copy_bytes(&mut self, bytes: &[u8]) -> Result<(), AllocError>
         ensures ok { OnOk result (self.new ≡ record self.old {
@@ -74,7 +74,7 @@ impl Taken {
         self.bytes.extend_from_slice(bytes)
     }
 
-    /// Keeps this many of its bytes from that position on, and drops the others. Takes no memory.
+    /// Keeps `count` bytes from the position `from` on, and drops the others. Takes no memory.
     #[inline(always)]
     pub(crate) fn keep_bytes(&mut self, from: usize, count: usize)
         requires { from + count ≤ length self.old.message.bytes }
@@ -87,7 +87,7 @@ impl Taken {
         self.bytes.keep(from, count);
     }
 
-    /// Sets the bytes of a result that has none, who sent them, and whether others were dropped.
+    /// Sets the bytes of a result without any, their sender, and whether others were dropped.
     #[inline(always)]
     pub(crate) fn put_bytes(&mut self, bytes: Bytes, user: Uid, trunc: bool)
         requires { self.old.message.bytes ≡ [] }
@@ -102,7 +102,7 @@ impl Taken {
         self.trunc = trunc;
     }
 
-    /// Sets the files of a result that has none.
+    /// Sets the files of a result without any.
     #[inline(always)]
     pub(crate) fn put_files(&mut self, attached: Attached)
         requires none { self.old.message.attached ≡ [] }
@@ -115,7 +115,7 @@ impl Taken {
         mem::forget(mem::replace(&mut self.attached, attached));
     }
 
-    /// Sets its bytes.
+    /// Sets the bytes.
     #[inline(always)]
     pub(crate) fn set_bytes(&mut self, bytes: Bytes)
         ensures { self.new
@@ -124,8 +124,7 @@ impl Taken {
         self.bytes = bytes;
     }
 
-    /// Takes the files of a message, and the user who sent it. The result has no files before.
-    /// Takes no memory.
+    /// Takes files and sender of `message`; the result has no files before. Takes no memory.
     #[inline(always)]
     pub(crate) fn take_files(&mut self, message: &mut Msg)
         requires { self.old.message.attached ≡ [] }
@@ -148,7 +147,7 @@ impl Taken {
         self.attached.as_slice()
     }
 
-    /// Returns the user who was charged for them.
+    /// Returns the user who was charged for the files.
     #[inline(always)]
     pub fn user(&self) -> Uid
         ensures { result ≡ self.now.message.user }
