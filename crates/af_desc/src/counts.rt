@@ -26,7 +26,7 @@ impl Files {
         }
     }
 
-    /// Returns the counts of the file of this number, by a binary search; all are 0 for an unknown
+    /// Returns the counts of the file numbered `ino`, by a binary search; all are 0 for an unknown
     /// one.
     fn count(&self, ino: Ino) -> Count
         ensures { result ≡ count_in_map self.now.counts ino }
@@ -44,7 +44,7 @@ impl Files {
         self.count(ino).places()
     }
 
-    /// Returns how many places hold the file of this reference; 0 for an unknown one.
+    /// Returns how many places hold `file`; 0 for an unknown one.
     pub fn refs_at(&self, file: &FileRef) -> u64
         ensures { result ≡ places_in (count_in_map self.now.counts file.now) }
     {
@@ -66,7 +66,7 @@ impl Files {
         self.count(ino).inflight()
     }
 
-    /// Returns how many places in queues hold the file of this reference.
+    /// Returns how many places in queues hold `file`.
     pub fn inflight_at(&self, file: &FileRef) -> u64
         ensures { result ≡ (count_in_map self.now.counts file.now).inflight }
     {
@@ -173,8 +173,8 @@ impl Files {
     }
 }
 
-/// Returns this number of embryos after one more place of this kind: one more for a backlog, unless
-/// it is at its largest.
+/// Returns `embryos` after one more place like `place`: one more for a backlog, unless it is at its
+/// largest.
 #[inline(always)]
 pub fn with_embryo(embryos: u64, place: &Place) -> u64
     ensures { result ≡ with_embryo place.now embryos }
@@ -185,8 +185,8 @@ pub fn with_embryo(embryos: u64, place: &Place) -> u64
     }
 }
 
-/// Returns this number of embryos after one place of this kind less: one less for a backlog, unless
-/// it is at its largest, where the true number may be larger.
+/// Returns `embryos` after one place like `place` less: one less for a backlog, unless it is at its
+/// largest, where the true number may be larger.
 #[inline(always)]
 fn without_embryo(embryos: u64, place: &Place) -> u64
     ensures { result ≡ without_embryo place.now embryos }

@@ -28,7 +28,7 @@ impl DirtyMark {
         DirtyMark { at: 0 }
     }
 
-    /// Returns the mark of a dirty file with this position in the list: a hint.
+    /// Returns the mark of a dirty file, with its position in the list: a hint.
     #[inline(always)]
     pub fn listed(index: u32) -> DirtyMark
         ensures { result ≡ true }
@@ -46,13 +46,13 @@ impl DirtyMark {
         self.at > 0
     }
 
-    /// Returns its position in the list: a hint.
+    /// Returns the file's position in the list: a hint.
     #[inline(always)]
     pub fn index(&self) -> usize {
         self.at.saturating_sub(1) as usize
     }
 
-    /// Sets its position in the list, if it is dirty.
+    /// Sets the file's position in the list, if it is dirty.
     #[inline(always)]
     pub fn set_index(&mut self, index: u32)
         ensures { self.new ≡ self.old }

@@ -40,7 +40,7 @@ pub struct FileRow {
 }
 
 impl FileRow {
-    /// Lends the socket that it is; `None` for a plain file.
+    /// Lends the socket; `None` for a plain file.
     #[inline(always)]
     pub fn socket<'a>(&'a self, nodes: &'a Slab<Node>) -> Option<Socket<'a>>
         requires chain { IsChain nodes.now self.now.chain }
@@ -50,7 +50,7 @@ impl FileRow {
         self.kind.socket(Queue::of(nodes, &self.chain))
     }
 
-    /// Returns what it holds, as far as one look tells.
+    /// Returns what the file holds, as far as one look tells.
     #[inline(always)]
     pub fn contents(&self, nodes: &Slab<Node>) -> Contents
         requires chain { IsChain nodes.now self.now.chain }
@@ -75,7 +75,7 @@ impl FileRow {
         }
     }
 
-    /// Returns whether it has no name and its queue is empty: then it holds nothing.
+    /// Returns whether the file has no name and an empty queue: then it holds nothing.
     #[inline(always)]
     pub fn is_bare(&self, nodes: &Slab<Node>) -> bool
         requires chain { IsChain nodes.now self.now.chain }
@@ -91,8 +91,8 @@ impl FileRow {
         }
     }
 
-    /// Appends a message to its queue, which is not full: it is a socket. It cannot fail, since
-    /// there is room.
+    /// Appends a message to the queue of a socket, which is not full. Cannot fail, since there is
+    /// room.
     #[inline(always)]
     pub fn push(&mut self, nodes: &mut Slab<Node>, message: Msg)
         requires socket { is_none (socket_of (file_in nodes.old self.old)) ≡ false }
@@ -109,8 +109,8 @@ impl FileRow {
         pool::push(nodes, &mut self.chain, message);
     }
 
-    /// Removes the first message from its queue, if there is one. Moves its files into an empty
-    /// list, and returns the user who is charged for them. Takes no memory.
+    /// Removes the queue's first message, if there is one. Moves its files into `attached`, which
+    /// is empty, and returns the user who is charged for them. Takes no memory.
     #[inline(always)]
     fn pop_message(&mut self, nodes: &mut Slab<Node>, attached: &mut Attached) -> Option<Uid>
         requires empty { attached.old.items ≡ [] }
@@ -131,8 +131,8 @@ impl FileRow {
         Some(message.user())
     }
 
-    /// Removes its first message, whose files it moves into an empty list, or else its first
-    /// embryo. Takes no memory.
+    /// Removes the first message, whose files it moves into `attached`, which is empty, or else the
+    /// first embryo. Takes no memory.
     #[inline(always)]
     pub fn pop(&mut self, nodes: &mut Slab<Node>, attached: &mut Attached) -> Option<Popped>
         requires empty { attached.old.items ≡ [] }
@@ -153,8 +153,8 @@ impl FileRow {
         Some(Popped::Embryo(embryo))
     }
 
-    /// Takes from its queue what a receive of at most this many bytes gives (recvmsg(2)); nothing
-    /// for a plain file. On an error nothing has changed.
+    /// Moves what a receive of at most `max` bytes gives (recvmsg(2)) from the queue to `taken`;
+    /// nothing for a plain file. On an error nothing has changed.
     #[inline(always)]
     pub fn take(
         &mut self,

@@ -139,7 +139,7 @@ impl FileTable {
         self.room
     }
 
-    /// Reserves room for this many rows more, for which each list of files has room. Nothing else
+    /// Reserves room for `rows` more rows, for which each list of files has room. Nothing else
     /// changes, also on an error.
     #[tactic(auto, using(ordered_slab::proofs::Parts::parts))]
     pub fn reserve(&mut self, rows: usize) -> Result<(), AllocError>
@@ -154,8 +154,8 @@ impl FileTable {
         Ok(())
     }
 
-    /// Reserves room for this many files in all in both lists, so far as they are kept. The other
-    /// lists of files have room for `most`. Nothing else changes, also on an error.
+    /// Reserves room for `all` files in both lists, so far as they are kept. The other lists of
+    /// files have room for `most`. Nothing else changes, also on an error.
     pub fn widen_lists(&mut self, all: usize, most: usize) -> Result<(), AllocError>
         requires most { all ≤ most }
         requires more { self.old.space ≤ all }
@@ -167,8 +167,8 @@ impl FileTable {
         self.told.widen(all, most)
     }
 
-    /// Adds a file, under the number after the last, with an empty queue, unmarked, and with this
-    /// place as its first reference. There is room for it, also in the lists.
+    /// Adds a file, under the number after the last, with an empty queue, unmarked, and with
+    /// `place` as its first reference. There is room for it, also in the lists.
     #[inline(always)]
     #[tactic(auto, using(crate::proofs::FileTableView::chains, ordered_slab::proofs::Parts::parts))]
     pub fn push(&mut self, ino: Ino, kind: FileKind, place: &Place) -> FileRef
@@ -254,7 +254,7 @@ impl FileTable {
         self.told.add_changed(row, file);
     }
 
-    /// Connects that socket to this peer.
+    /// Connects the socket `file` to `peer`.
     #[inline(always)]
     #[tactic(auto, using(crate::proofs::FileTableView::rows, ordered_slab::proofs::Parts::parts))]
     pub fn connect(&mut self, file: &FileRef, peer: &FileRef)
@@ -267,7 +267,7 @@ impl FileTable {
         self.told.add_changed(row, file);
     }
 
-    /// Gives that socket, which has no name, this one. On an error nothing has changed.
+    /// Gives a nameless socket this name. On an error nothing has changed.
     #[inline(always)]
     #[tactic(auto, using(crate::proofs::FileTableView::rows, ordered_slab::proofs::Parts::parts))]
     pub fn bind(&mut self, file: &FileRef, alloc: Global, name: Bytes) -> Result<(), AllocError>
@@ -281,8 +281,8 @@ impl FileTable {
         row.kind.bind(alloc, name)
     }
 
-    /// Makes that socket, which has a name and no embryos, a listener with this backlog. On an
-    /// error nothing has changed.
+    /// Makes a socket, which has a name and no embryos, a listener for at most `most` embryos. On
+    /// an error nothing has changed.
     #[inline(always)]
     #[tactic(auto, using(crate::proofs::FileTableView::rows, ordered_slab::proofs::Parts::parts))]
     pub fn listen(&mut self, file: &FileRef, alloc: Global, most: u32) -> Result<(), AllocError>
@@ -299,7 +299,7 @@ impl FileTable {
         Ok(())
     }
 
-    /// Appends an embryo to the backlog of that listener, which has room for it.
+    /// Appends an embryo to the backlog of the listener `file`, which has room for it.
     #[inline(always)]
     #[tactic(auto, using(crate::proofs::FileTableView::rows, ordered_slab::proofs::Parts::parts))]
     pub fn enqueue(&mut self, file: &FileRef, embryo: FileRef)
@@ -354,8 +354,8 @@ impl FileTable {
         self.told.add_changed(row, file);
     }
 
-    /// Removes the first message of a file, whose files it moves into an empty list, or else its
-    /// first embryo. Takes no memory.
+    /// Removes a file's first message, whose files it moves into `attached`, which is empty, or
+    /// else its first embryo. Takes no memory.
     #[inline(always)]
     #[tactic(auto, using(crate::proofs::FileTableView::messages, ordered_slab::proofs::Parts::parts))]
     pub fn pop(&mut self, file: &FileRef, attached: &mut Attached) -> Option<Popped>
@@ -371,8 +371,8 @@ impl FileTable {
         Some(popped)
     }
 
-    /// Takes from the queue of that socket what a receive of at most this many bytes gives
-    /// (recvmsg(2)); nothing for a plain or unknown file. On an error nothing has changed.
+    /// Moves what a receive of at most `max` bytes gives (recvmsg(2)) from a socket's queue to
+    /// `taken`; nothing for a plain or unknown file. On an error nothing has changed.
     #[inline(always)]
     #[tactic(auto, using(crate::proofs::FileTableView::messages, ordered_slab::proofs::Parts::parts))]
     pub fn take(
@@ -515,8 +515,8 @@ impl FileTable {
         row.mark.set_position(at);
     }
 
-    /// Marks a file grey, with this position in the list, if it is not marked in this pass. Returns
-    /// whether this call marked it.
+    /// Marks a file grey, at the position `at` of the list, if it is not marked in this pass.
+    /// Returns whether this call marked it.
     #[inline(always)]
     #[tactic(auto, using(crate::proofs::FileTableView::chains, ordered_slab::proofs::Parts::parts, ordered_slab::proofs::Values::lent))]
     pub fn shade(&mut self, file: &FileRef, epoch: u32, at: usize) -> bool
@@ -587,7 +587,7 @@ impl FileTable {
         let _rows = &self.rows;
     }
 
-    /// Returns a reference to the row of this number, if there is one, by a search. A look-up by
+    /// Returns a reference to the row of `ino`, if there is one, by a search. A look-up by
     /// `FileRef` needs none if its hint is right.
     #[tactic(auto, using(crate::proofs::FileTableView::chains, ordered_slab::proofs::Parts::parts))]
     pub fn find(&self, ino: Ino) -> Option<FileRef>
@@ -599,9 +599,9 @@ impl FileTable {
         self.rows.find(ino)
     }
 
-    /// Returns the least number above this one that has a row, if there is one, and the position
-    /// behind it in the order. This number need not have a row. Behind the last answer it needs no
-    /// search.
+    /// Returns the least number above `ino` that has a row, if there is one, and the position
+    /// behind it in the order. `ino` need not have a row. From the last answer on, no search is
+    /// needed.
     #[inline(always)]
     #[tactic(auto, using(crate::proofs::FileTableView::chains, ordered_slab::proofs::Parts::parts))]
     pub fn next_after(&self, ino: Ino, at: usize) -> Option<(FileRef, usize)>
@@ -614,6 +614,7 @@ impl FileTable {
     {
         self.rows.next_after(ino, at)
     }
+
     /// Begins to list freed files, and empties both lists. On an error nothing has changed.
     #[tactic(auto, using(crate::proofs::FileTableInvariant::cleaned_rows))]
     pub fn tell_released(&mut self) -> Result<(), AllocError>

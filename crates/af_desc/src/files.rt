@@ -9,16 +9,15 @@ ghost use Rattle.af_base.specs.Names.{named};
 ghost use Rattle.af_base.specs.Changes.{connected, dequeued, listening, pushed, queued, with_name};
 ghost use Rattle.af_base.specs.Refusals.{room_of};
 ghost use Rattle.af_base.specs.Steps.{connected_socket, idle_socket};
+ghost use Rattle.af_base.specs.Told.{AreChanged, AreReleased};
 ghost use Rattle.af_base.specs.Whole.{IsMessageWithin};
 ghost use Rattle.af_base.specs.World.{untold};
 ghost use Rattle.af_mark.specs.MarksView.{is_grey, is_unmarked};
 ghost use Rattle.af_desc.specs.FileTableView.{file_of};
-ghost use Rattle.af_base.specs.Told.{AreChanged, AreReleased};
 ghost use Rattle.af_desc.specs.FilesView.{AreNamed, after_end, changed, changed_queue, entered};
 ghost use Rattle.af_desc.specs.FilesView.{freed, is_full, is_live, is_unmarked_socket, name_of};
+ghost use Rattle.af_desc.specs.FilesView.{paired, received_from, received_of, socket_in, without};
 ghost use Rattle.af_desc.specs.Holding.{IsPopped, without_popped};
-ghost use Rattle.af_desc.specs.FilesView.{paired, received_from, received_of, socket_in};
-ghost use Rattle.af_desc.specs.FilesView.{without};
 ghost use Rattle.af_queue.specs.TakenView.{nothing_received};
 
 use crate::contents::Popped;
@@ -144,7 +143,7 @@ impl Files {
         Ino(self.next)
     }
 
-    /// Returns whether this many more files are too many, or have no numbers left (ENFILE,
+    /// Returns whether `more` further files are too many, or have no numbers left (ENFILE,
     /// open(2)).
     #[inline(always)]
     pub fn is_full(&self, more: usize) -> bool
@@ -154,7 +153,7 @@ impl Files {
             || self.next.saturating_add(more as u64) > MAX_INO + 1
     }
 
-    /// Returns the file of that number, if it is known, by a search. A look-up by `FileRef` needs
+    /// Returns the file numbered `ino`, if it is known, by a search. A look-up by `FileRef` needs
     /// none if its hint is right.
     pub fn find(&self, ino: Ino) -> Option<FileRef>
         ensures there { IfSome result (λ f. (f ≡ ino) × IsTrue (is_live self.now ino)) }
@@ -171,8 +170,8 @@ impl Files {
         self.rows.socket(file)
     }
 
-    /// Returns the socket of this abstract name, if there is one (unix(7)): one look-up, for any
-    /// number of names.
+    /// Returns the socket with the abstract name `name`, if there is one (unix(7)): one look-up,
+    /// for any number of names.
     #[inline(always)]
     pub fn find_name(&self, name: &[u8]) -> Option<FileRef>
         ensures { result ≡ named self.now.files name.now }
@@ -180,9 +179,9 @@ impl Files {
         self.names.find(name)
     }
 
-    /// Returns the file with the least number above this one, if there is one, and the position
-    /// behind it in the order; from 0 on, the least of all. This number need not be a file's. A
-    /// walk passes the last answer, and needs no search; the position is a hint.
+    /// Returns the file with the least number above `ino`, if there is one, and the position behind
+    /// it in the order; from 0 on, the least of all. `ino` need not be a file's. A walk passes the
+    /// last answer, and needs no search; the position `at` is a hint.
     #[inline(always)]
     pub fn next_after(&self, ino: Ino, at: usize) -> Option<(FileRef, usize)>
         ensures above { IfSome result (λ n. ino < n.0) }
@@ -195,7 +194,7 @@ impl Files {
         self.rows.next_after(ino, at)
     }
 
-    /// Makes a file, under the next number, with this place as its first reference. Reserves room
+    /// Makes a file, under the next number, with `place` as its first reference. Reserves room
     /// first, so that on an error nothing has changed.
     #[inline(always)]
     #[tactic(auto, using(crate::proofs::FirstNumber::begun))]
@@ -213,7 +212,7 @@ impl Files {
         Ok(file)
     }
 
-    /// Makes a plain file, under the next number, with this place as its first reference, if
+    /// Makes a plain file, under the next number, with `place` as its first reference, if
     /// `is_full(1)` is false. On an error nothing has changed.
     pub fn make_plain(&mut self, place: &Place) -> Result<FileRef, AllocError>
         requires room { is_full self.old 1 ≡ false }
@@ -224,7 +223,7 @@ impl Files {
         self.make(FileKind::plain(), place)
     }
 
-    /// Makes a socket that was never connected, under the next number, with this place as its first
+    /// Makes a socket that was never connected, under the next number, with `place` as its first
     /// reference, if `is_full(1)` is false. On an error nothing has changed.
     pub fn make_sock(&mut self, kind: SockType, place: &Place) -> Result<FileRef, AllocError>
         requires room { is_full self.old 1 ≡ false }
@@ -237,8 +236,8 @@ impl Files {
     }
 
     /// Makes two sockets that are connected to each other (socketpair(2)), under the next two
-    /// numbers, each with such a place as its first reference, if `is_full(2)` is false; on an
-    /// error it makes none.
+    /// numbers, each with `place` as its first reference, if `is_full(2)` is false. On an error
+    /// nothing has changed.
     #[tactic(auto, using(crate::proofs::FirstNumber::begun))]
     pub fn make_two(
         &mut self,
@@ -332,8 +331,8 @@ impl Files {
         self.rows.push_message(file, message);
     }
 
-    /// Copies what a receive of at most this many bytes would take from the queue of that socket
-    /// (recvmsg(2), MSG_PEEK); nothing for a plain or unknown file.
+    /// Copies what a receive of at most `max` bytes would take from a socket's queue (recvmsg(2),
+    /// MSG_PEEK); nothing for a plain or unknown file.
     pub fn peek(&self, file: &FileRef, max: usize) -> Result<Taken, AllocError>
         requires { 0 < max }
         ensures { IfOk result (λ t. t ≡ received_of (socket_in self.now.files file.now) max) }
@@ -344,8 +343,8 @@ impl Files {
         }
     }
 
-    /// Takes from the queue of that socket what a receive of at most this many bytes gives
-    /// (recvmsg(2)); nothing for a plain or unknown file. On an error nothing has changed.
+    /// Moves what a receive of at most `max` bytes gives (recvmsg(2)) from a socket's queue to
+    /// `taken`; nothing for a plain or unknown file. On an error nothing has changed.
     #[inline(always)]
     pub fn take(&mut self, file: &FileRef, max: usize, taken: &mut Taken) -> Result<(), AllocError>
         requires some { 0 < max }
@@ -361,8 +360,8 @@ impl Files {
         self.rows.take(file, self.alloc, max, taken)
     }
 
-    /// Removes the first message of a file, whose files it moves into an empty list, or else its
-    /// first embryo. Takes no memory.
+    /// Removes a file's first message, whose files it moves into `attached`, which is empty, or
+    /// else its first embryo. Takes no memory.
     #[inline(always)]
     pub fn pop(&mut self, file: &FileRef, attached: &mut Attached) -> Option<Popped>
         requires { attached.old.items ≡ [] }
@@ -374,8 +373,8 @@ impl Files {
         self.rows.pop(file, attached)
     }
 
-    /// Makes an embryo: a socket that is connected to that client, and the client to it, under the
-    /// next number, with this place as its first reference, if `is_full(1)` is false. On an error
+    /// Makes an embryo: a socket that is connected to `client`, and the client to it, under the
+    /// next number, with `place` as its first reference, if `is_full(1)` is false. On an error
     /// nothing has changed.
     #[tactic(auto, using(crate::proofs::FirstNumber::begun))]
     pub fn make_embryo(
@@ -395,15 +394,15 @@ impl Files {
         Ok(embryo)
     }
 
-    /// Connects that socket to this peer. Ignores a plain or unknown file. Takes no memory.
+    /// Connects the socket `file` to `peer`. Ignores a plain or unknown file. Takes no memory.
     fn connect(&mut self, file: &FileRef, peer: &FileRef)
         ensures { self.new ≡ changed (connected peer.now) file.now self.old }
     {
         self.rows.connect(file, peer);
     }
 
-    /// Gives that socket, which has no name, this one, which is free (bind(2)). Ignores a plain or
-    /// unknown file. On an error nothing has changed.
+    /// Gives a nameless socket this name, which is free (bind(2)). Ignores a plain or unknown file.
+    /// On an error nothing has changed.
     pub fn bind(&mut self, file: &FileRef, name: &[u8]) -> Result<(), AllocError>
         requires nameless { IfSome (socket_in self.old.files file.now) (λ s. s.name ≡ None) }
         requires free { named self.old.files name.now ≡ None }
@@ -423,7 +422,7 @@ impl Files {
         Ok(())
     }
 
-    /// Makes that socket, which has a name and no embryos, a listener with this backlog
+    /// Makes a socket, which has a name and no embryos, a listener for at most `most` embryos
     /// (listen(2)). Ignores a plain or unknown file. On an error nothing has changed.
     pub fn listen(&mut self, file: &FileRef, most: u32) -> Result<(), AllocError>
         requires named { IfSome (socket_in self.old.files file.now) (λ s. is_none s.name ≡ false) }
@@ -434,8 +433,8 @@ impl Files {
         self.rows.listen(file, self.alloc, most)
     }
 
-    /// Appends an embryo to the backlog of that listener, which has room for it. Ignores a plain or
-    /// unknown file. Takes no memory.
+    /// Appends an embryo to the backlog of the listener `file`, which has room for it. Ignores a
+    /// plain or unknown file. Takes no memory.
     pub fn enqueue(&mut self, file: &FileRef, embryo: FileRef)
         requires { IfSome (socket_in self.old.files file.now) (λ s.
             length s.backlog < room_of s.state) }
@@ -516,7 +515,7 @@ impl Files {
     }
 }
 
-/// Reserves room for this many further files, and for all files in each list of files at once.
+/// Reserves room for `files` further files, and for all files in each list of files at once.
 /// Nothing else changes, also on an error.
 #[inline(always)]
 fn reserve(

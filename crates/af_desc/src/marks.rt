@@ -57,7 +57,7 @@ impl Files {
         self.white == 0
     }
 
-    /// Returns the bound of the pass: files from this number on were made since it began.
+    /// Returns the bound of the pass: files from that number on were made since it began.
     pub fn bound(&self) -> Ino
         ensures { result ≡ self.now.marks.bound }
     {
@@ -191,7 +191,7 @@ fn remove_listed(rows: &mut FileTable, grey: &mut Vec<FileRef>, ino: Ino, at: us
     }
 }
 
-/// Returns the epoch after this one: no mark of an earlier epoch counts in it.
+/// Returns the epoch after `epoch`: no mark of an earlier epoch counts in it.
 fn next_epoch(rows: &mut FileTable, epoch: u32) -> u32
     requires upto { AreUpTo epoch rows.old.marks }
     requires begins { map.contains_key rows.old.files 0 ≡ false }

@@ -33,7 +33,7 @@ enum Form {
     Plain,
     /// Has no name, and was never connected.
     Idle(SockType),
-    /// Has no name, and is connected to this live peer.
+    /// Has no name, and is connected to a live peer.
     Connected(SockType, FileRef),
     /// Has no name, and was connected; the peer was freed.
     HungUp(SockType),
@@ -54,9 +54,9 @@ struct NamedSocket {
 enum Link {
     /// Never connected, and not listening.
     Idle,
-    /// Waits for connections, with this backlog.
+    /// Waits for connections, at most this many at a time.
     Listening(u32),
-    /// Connected to this live peer.
+    /// Connected to a live peer.
     Connected(FileRef),
     /// Was connected; the peer was freed.
     HungUp,
@@ -116,7 +116,7 @@ impl FileKind {
         }
     }
 
-    /// Returns whether it is a socket.
+    /// Returns whether the file is a socket.
     #[inline(always)]
     pub fn is_socket(&self) -> bool
         ensures { result ≡ is_some self.now }
@@ -124,7 +124,7 @@ impl FileKind {
         !matches!(&self.form, Form::Plain)
     }
 
-    /// Returns its form, if it is a socket.
+    /// Returns the form of a socket; `None` for a plain file.
     #[inline(always)]
     fn socket_form(&self) -> Option<&Form>
         ensures { option_map (λ f. shown f.now) result ≡ self.now }
@@ -137,7 +137,7 @@ impl FileKind {
         }
     }
 
-    /// Lends the socket that it is, with this queue; `None` for a plain file.
+    /// Lends the socket, with its queue; `None` for a plain file.
     #[inline(always)]
     pub fn socket<'a>(&'a self, queue: Queue<'a>) -> Option<Socket<'a>>
         ensures { result ≡ option_map (refilled queue.entry) self.now }
@@ -146,7 +146,7 @@ impl FileKind {
         Some(Socket { form, queue })
     }
 
-    /// Returns its peer, if it is connected and the peer is live.
+    /// Returns the live peer of a connected socket.
     #[inline(always)]
     pub fn peer(&self) -> Option<FileRef>
         ensures some { IfSome result (λ peer.
@@ -157,7 +157,7 @@ impl FileKind {
         self.socket_form()?.peer()
     }
 
-    /// Returns its abstract name, if it has one (unix(7)).
+    /// Returns the abstract name, if there is one (unix(7)).
     #[inline(always)]
     pub fn name(&self) -> Option<&Bytes>
         ensures { option_copied result ≡ option_and_then (λ s. s.name) self.now }
@@ -184,8 +184,8 @@ impl FileKind {
         Ok(())
     }
 
-    /// Makes a socket a listener with this backlog; it has a name and no embryos. On an error
-    /// nothing has changed.
+    /// Makes a socket, which has a name and no embryos, a listener for at most `most` embryos. On
+    /// an error nothing has changed.
     pub fn listen(&mut self, alloc: Global, most: u32) -> Result<(), AllocError>
         requires named { IfSome self.old (λ s. is_none s.name ≡ false) }
         requires nobody { IfSome self.old (λ s. s.backlog ≡ []) }
@@ -247,7 +247,7 @@ impl FileKind {
 }
 
 impl Form {
-    /// Returns its type.
+    /// Returns the socket's type.
     #[inline(always)]
     fn kind(&self) -> SockType
         ensures { result ≡ (shown self.now).kind }
@@ -261,7 +261,7 @@ impl Form {
         }
     }
 
-    /// Returns its connection state.
+    /// Returns the socket's connection state.
     #[inline(always)]
     fn state(&self) -> State
         ensures { result ≡ (shown self.now).state }
@@ -274,7 +274,7 @@ impl Form {
         }
     }
 
-    /// Returns a copy of its connection state, which finds the peer as a file.
+    /// Returns a copy of the connection state, which finds the peer as a file.
     fn link(&self) -> Link
         ensures { state_of result ≡ (shown self.now).state }
     {
@@ -286,7 +286,7 @@ impl Form {
         }
     }
 
-    /// Returns its peer, if it is connected and the peer is live.
+    /// Returns the live peer, if there is one.
     #[inline(always)]
     fn peer(&self) -> Option<FileRef>
         ensures some { IfSome result (λ peer. (shown self.now).state ≡ State.Connected peer) }
@@ -300,7 +300,7 @@ impl Form {
         }
     }
 
-    /// Returns its parts, if it has a name.
+    /// Returns the parts of a socket with a name.
     #[inline(always)]
     fn named(&self) -> Option<&NamedSocket>
         ensures name { option_map (λ s. s.now.name) result ≡ (shown self.now).name }
@@ -340,7 +340,7 @@ impl Link {
         }
     }
 
-    /// Returns the peer, if it is connected and the peer is live.
+    /// Returns the live peer of a connection.
     #[inline(always)]
     fn peer(&self) -> Option<FileRef>
         ensures some { IfSome result (λ peer. state_of self.now ≡ State.Connected peer) }
@@ -370,7 +370,7 @@ impl<'a> Model for Socket<'a> {
 }
 
 impl<'a> Socket<'a> {
-    /// Returns its type.
+    /// Returns the socket's type.
     #[inline(always)]
     pub fn kind(&self) -> SockType
         ensures { result ≡ self.now.kind }
@@ -378,7 +378,7 @@ impl<'a> Socket<'a> {
         self.form.kind()
     }
 
-    /// Returns its connection state.
+    /// Returns the socket's connection state.
     #[inline(always)]
     pub fn state(&self) -> State
         ensures { result ≡ self.now.state }
@@ -386,7 +386,7 @@ impl<'a> Socket<'a> {
         self.form.state()
     }
 
-    /// Returns its peer, if it is connected and the peer is live.
+    /// Returns the live peer, as [`FileKind::peer`].
     #[inline(always)]
     pub fn peer(&self) -> Option<FileRef>
         ensures some { IfSome result (λ peer. self.now.state ≡ State.Connected peer) }
@@ -395,7 +395,7 @@ impl<'a> Socket<'a> {
         self.form.peer()
     }
 
-    /// Returns its queue.
+    /// Returns the queue.
     #[inline(always)]
     pub fn queue(&self) -> &Queue<'a>
         ensures { result.now ≡ self.now.queue }
@@ -403,7 +403,7 @@ impl<'a> Socket<'a> {
         &self.queue
     }
 
-    /// Returns its abstract name, if it has one (unix(7)).
+    /// Returns the abstract name, if there is one (unix(7)).
     #[inline(always)]
     pub fn name(&self) -> Option<&'a Bytes>
         ensures { option_copied result ≡ self.now.name }
@@ -412,7 +412,7 @@ impl<'a> Socket<'a> {
         Some(&socket.name)
     }
 
-    /// Returns whether it has no name. If so, no embryo waits in its backlog.
+    /// Returns whether the socket has no name. If so, no embryo waits in its backlog.
     #[inline(always)]
     pub fn is_nameless(&self) -> bool
         ensures name { result ≡ is_none self.now.name }
@@ -421,7 +421,7 @@ impl<'a> Socket<'a> {
         !matches!(self.form, Form::Named(_, _))
     }
 
-    /// Returns its backlog, if it has a name; without one it has none.
+    /// Returns the backlog, if the socket has a name; without one it has none.
     #[inline(always)]
     pub fn backlog(&self) -> Option<&'a Backlog>
         ensures some { IfSome result (λ b. b.now.waiting ≡ self.now.backlog) }

@@ -102,8 +102,8 @@ impl ToldLists {
         self.released.as_slice()
     }
 
-    /// Reserves room for this many files in all in both lists, so far as they are kept. The other
-    /// lists of files have room for `most`. Nothing else changes, also on an error.
+    /// Reserves room for `all` files in both lists, so far as they are kept. The other lists of
+    /// files have room for `most`. Nothing else changes, also on an error.
     pub fn widen(&mut self, all: usize, most: usize) -> Result<(), AllocError>
         requires most { all ≤ most }
         requires more { self.old.space ≤ all }
@@ -126,7 +126,7 @@ impl ToldLists {
         Ok(())
     }
 
-    /// Begins to list freed files, with room for this many, and empties that list. On an error
+    /// Begins to list freed files, with room for `live` of them, and empties that list. On an error
     /// nothing has changed.
     pub fn tell_released(&mut self, live: usize) -> Result<(), AllocError>
         requires { live ≤ self.old.space }
@@ -147,7 +147,7 @@ impl ToldLists {
         Ok(())
     }
 
-    /// Begins to list sockets whose readiness may have changed, with room for this many. On an
+    /// Begins to list sockets whose readiness may have changed, with room for `live` of them. On an
     /// error nothing has changed.
     pub fn tell_changed(&mut self, live: usize) -> Result<(), AllocError>
         requires { live ≤ self.old.space }
@@ -302,7 +302,7 @@ impl ToldLists {
     }
 }
 
-/// Sets the position of the file that is now at this position of the list: a hint.
+/// Sets the position of the file that is now at `at` in the list: a hint.
 #[tactic(auto, using(ordered_slab::proofs::Values::lent))]
 fn update_moved_index(rows: &mut OrderedSlab<FileRow>, changed: &[FileRef], at: Option<usize>)
     ensures { rows.new ≡ rows.old }
@@ -330,7 +330,7 @@ fn clear_dirty(rows: &mut OrderedSlab<FileRow>, changed: &mut Vec<FileRef>)
     }
 }
 
-/// Reserves room for this many files in a list. Nothing else changes, also on an error.
+/// Reserves room for `files` files in a list. Nothing else changes, also on an error.
 #[inline(always)]
 pub(crate) fn widen<T>(list: &mut Vec<T>, files: usize) -> Result<(), AllocError>
     ensures items { list.new.items ≡ list.old.items }

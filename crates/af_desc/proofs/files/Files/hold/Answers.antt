@@ -7,11 +7,25 @@ use Rattle.af_desc.proofs.files.Files.hold.Goals as goal
 pub invariant_of-self : goal.invariant_of-self
 invariant_of-self c =
     let a = c.self.inside in
+    let kept = c.self.invariant in
     let one = c.add_ref-first.ensures in
-    filed-counted a.rows _ _ _ _ _ _ _ _ c.self.invariant _ c.swap_remove_file.new.files.items (vec_capacity c.swap_remove_file.new.files) one.counts (raised-off a.rows.counts _ a.unreferenced.items c.args.file.now c.self.invariant.unreferenced_listed c.args.place.now refl c.swap_remove_file.new.files.items (search rules)) one.len (omega (arith, c.swap_remove_file.ensures.capacity)) _ (counted-more a.rows.counts c.args.file.now c.args.place.now a.embryos _ c.with_embryo-self-inside.ensures c.self.invariant.backlogged)
+    let file = c.args.file.now in
+    let place = c.args.place.now in
+    let left = c.swap_remove_file.new.files in
+    let more = counted-more a.rows.counts file place a.embryos _ c.with_embryo-self-inside.ensures kept.backlogged in
+    let off = raised-off a.rows.counts _ a.unreferenced.items file kept.unreferenced_listed place refl left.items (search rules) in
+    let fits = c.swap_remove_file.ensures.capacity in
+    filed-counted a.rows _ _ _ _ _ _ _ _ kept _ left.items (vec_capacity left) one.counts off one.len (omega (arith, fits)) _ more
 
 pub invariant_of-self-else-first : goal.invariant_of-self-else-first
 invariant_of-self-else-first c =
     let a = c.self.inside in
+    let kept = c.self.invariant in
     let one = c.add_ref-first.ensures in
-    filed-counted a.rows _ _ _ _ _ _ _ _ c.self.invariant _ a.unreferenced.items (vec_capacity a.unreferenced) one.counts (raised-kept a.rows.counts _ a.unreferenced.items c.args.file.now c.self.invariant.unreferenced_listed c.args.place.now refl (sym one.first ∙ c.if-first.false)) one.len (omega arith) _ (counted-more a.rows.counts c.args.file.now c.args.place.now a.embryos _ c.with_embryo-self-inside.ensures c.self.invariant.backlogged)
+    let file = c.args.file.now in
+    let place = c.args.place.now in
+    let list = a.unreferenced in
+    let more = counted-more a.rows.counts file place a.embryos _ c.with_embryo-self-inside.ensures kept.backlogged in
+    let some = sym one.first ∙ c.if-first.false in
+    let stays = raised-kept a.rows.counts _ list.items file kept.unreferenced_listed place refl some in
+    filed-counted a.rows _ _ _ _ _ _ _ _ kept _ list.items (vec_capacity list) one.counts stays one.len (omega arith) _ more
