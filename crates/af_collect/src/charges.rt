@@ -8,7 +8,7 @@ use af_base::ids::{FileRef, Uid};
 use af_desc::Files;
 use af_ledger::{Ledger, Place};
 
-/// Adds one place in a queue for each of these files, and charges the user.
+/// Adds one place in a queue for each of `attached`, and charges the user.
 #[inline(always)]
 pub fn charge_message(files: &mut Files, ledger: &mut Ledger, user: Uid, attached: &[FileRef])
     requires { CanHoldAll user attached.now (kept_of files.old.counts ledger.old) }
@@ -25,7 +25,7 @@ pub fn charge_message(files: &mut Files, ledger: &mut Ledger, user: Uid, attache
     }
 }
 
-/// Drops one place in a queue for each of these files, and the user's charge.
+/// Drops one place in a queue for each of `attached`, and the user's charge.
 #[inline(always)]
 pub fn uncharge_message(files: &mut Files, ledger: &mut Ledger, user: Uid, attached: &[FileRef])
     requires { CanDropAll user attached.now (kept_of files.old.counts ledger.old) }

@@ -1,4 +1,4 @@
-//! The holdings, and how far a pass is: what each change of one owes to the other.
+//! The state with its pass. Each change of the state also keeps the pass's invariant.
 ghost use Rattle.std.specs.Prelude.{◌≡◌, ◌&&◌, ◌+◌, ◌<◌, ◌≤◌, ℕ, Some, [], if◌then◌else◌, true};
 ghost use Rattle.std.specs.Prelude.{IsTrue, false, nat_eq, slice_get};
 ghost use Rattle.af_base.specs.declared.limits.TheConstants.{MAX_FILES};

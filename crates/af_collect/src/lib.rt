@@ -12,11 +12,11 @@
 //! `room_for`; `put_embryo`; `close_at` and `table_out`, before `release`. So is the view `looked`.
 #![tactic(auto)]
 
+mod charges;
 mod collector;
 mod holdings;
 mod listings;
 mod marks;
-mod messages;
 mod passes;
 mod places;
 mod progress;

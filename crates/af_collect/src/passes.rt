@@ -55,8 +55,8 @@ impl Store {
         self.collector.begin();
     }
 
-    /// Proceeds by at most this many units, each of which visits, scans or sweeps one file. If the
-    /// pass is done, returns how many sockets were garbage when it began.
+    /// Does at most `budget` units, each of which visits, scans or sweeps one file. If the pass is
+    /// done, returns how many sockets were garbage when it began.
     pub fn slice(&mut self, budget: u32) -> Option<u64>
         requires running { runs self.old.pass ≡ true }
         requires sound { IsSound self.old.world }

@@ -27,7 +27,7 @@ ghost use Rattle.af_ledger.specs.declared.place.Place.TheVariants.{Table};
 ghost use Rattle.af_mark.specs.MarksView.{is_unmarked};
 ghost use Rattle.af_queue.specs.TakenView.{nothing_received};
 
-use crate::messages::charge_message;
+use crate::charges::charge_message;
 use crate::progress::{PassProgress, Stage};
 use crate::shading::shade_taken;
 use crate::store::Store;

@@ -59,7 +59,7 @@ impl Holdings {
         self.files.refs(ino)
     }
 
-    /// Returns how many places hold the file of this reference; 0 for an unknown one.
+    /// Returns how many places hold `file`; 0 for an unknown one.
     pub fn refs_at(&self, file: &FileRef) -> u64
         ensures { result ≡ refs self.now.world file.now }
     {
@@ -80,7 +80,7 @@ impl Holdings {
         self.files.inflight(ino)
     }
 
-    /// Returns how many places in queues hold the file of this reference.
+    /// Returns how many places in queues hold `file`.
     pub fn inflight_at(&self, file: &FileRef) -> u64
         ensures { result ≡ inflight self.now.world file.now }
     {
@@ -125,8 +125,8 @@ impl Holdings {
         self.ledger.user_at(i)
     }
 
-    /// Returns whether a user may send this many files by a process of this limit and privilege, or
-    /// why not (unix(7), ETOOMANYREFS).
+    /// Returns whether a user may send `files` more files, by a process with this limit and
+    /// privilege, or why not (unix(7), ETOOMANYREFS).
     #[inline(always)]
     pub fn may_send(
         &self,

@@ -11,8 +11,8 @@ ghost use Rattle.af_base.specs.Whole.{IsSound};
 ghost use Rattle.af_collect.specs.Losing.{places_at, without_place};
 ghost use Rattle.af_mark.specs.MarksView.{forgotten};
 
+use crate::charges::uncharge_message;
 use crate::holdings::Holdings;
-use crate::messages::uncharge_message;
 use af_base::ids::FileRef;
 use af_desc::Popped;
 use af_ledger::Place;

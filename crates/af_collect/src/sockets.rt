@@ -68,8 +68,8 @@ impl Store {
         Ok(())
     }
 
-    /// Gives a socket that has no name this one, which is valid and free (bind(2)). On an error
-    /// nothing has changed.
+    /// Gives a nameless socket this name, which is valid and free (bind(2)). On an error nothing
+    /// has changed.
     pub fn bind(&mut self, socket: &FileRef, name: &[u8]) -> Result<(), AllocError>
         requires nameless { IfSome (socket_at self.old.world socket.now) (λ s. s.name ≡ None) }
         requires name { is_name name.now ≡ true }
@@ -99,7 +99,7 @@ impl Store {
         holdings.files.listen(socket, most)
     }
 
-    /// Makes an embryo: a socket that is connected to this client, which is idle, and the client to
+    /// Makes an embryo: a socket that is connected to `client`, which is idle, and the client to
     /// it. Appends it to the backlog of a listener that has room for it (connect(2)). On an error
     /// nothing has changed.
     pub fn make_embryo(

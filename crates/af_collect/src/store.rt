@@ -115,8 +115,8 @@ impl Store {
         holdings.procs.set_limit(pid, limit);
     }
 
-    /// Reserves room to install this many descriptors of the process. No process can see a change,
-    /// also on an error. Needs no memory if the table is as long as the limit, or none is to come.
+    /// Reserves room to install `count` descriptors of the process. No process can see a change,
+    /// also on an error. Needs no memory if the table is as long as the limit, or `count` is 0.
     #[inline(always)]
     pub fn room_for(&mut self, pid: Pid, count: usize) -> Result<(), AllocError>
         ensures world { self.new.world ≡ self.old.world }

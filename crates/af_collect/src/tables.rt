@@ -17,8 +17,8 @@ use af_desc::Files;
 use af_ledger::{Ledger, Place};
 use af_table::{Process, Procs};
 
-/// Installs files at these descriptors of a known process, in order, as long as there are both.
-/// Each descriptor has room, and each file has counts.
+/// Installs the files `attached` at the descriptors `fds` of a known process, in order, as long as
+/// there are both. Each descriptor has room, and each file has counts.
 #[inline(always)]
 pub fn table_in_all(
     procs: &mut Procs,
@@ -51,9 +51,9 @@ pub fn table_in_all(
     }
 }
 
-/// Moves the files of a received message from a queue to these descriptors of a known process, in
-/// order, as long as there are both. Drops the places of the other files, and the user's charge for
-/// all. Each descriptor has room.
+/// Moves the files of a received message from a queue to the descriptors `fds` of a known process,
+/// in order, as long as there are both. Drops the places of the other files, and the user's charge
+/// for all. Each descriptor has room.
 #[inline(always)]
 pub fn receive_all(
     procs: &mut Procs,

@@ -6,7 +6,7 @@ use Rattle.af_ledger.specs.Tally.{Tally, count_in_map, kept_of, with_refs}
 use Rattle.af_ledger.specs.declared.place.Place.TheVariants.{Queue}
 use Rattle.af_ledger.proofs.ManyPlaces.{charged-held_all, held-more, hold-next}
 use Rattle.af_collect.proofs.CountChanges.{changed-all, counts-alone}
-use Rattle.af_collect.proofs.messages.charge_message.Goals as goal
+use Rattle.af_collect.proofs.charges.charge_message.Goals as goal
 
 pub hold-requires-clause-known : goal.hold-requires-clause-known
 hold-requires-clause-known c = subst (λ m. IsTrue (map.contains_key m c.file-item.result)) (sym c.loop-file.invariant.counts) (hold-next c.args.user c.args.attached.now c.loop-file.file-index c.file-item.result (kept_of c.args.files.now.counts c.args.ledger.now) c.requires c.loop-file-test.true c.file-item.is).0

@@ -2,7 +2,7 @@
 use Rattle.std.proofs.Common.{◌≡◌, take}
 use Rattle.af_ledger.specs.Tally.{kept_of, with_refs}
 use Rattle.af_ledger.specs.declared.place.Place.TheVariants.{Queue}
-use Rattle.af_collect.proofs.messages.charge_message.Given as goal
+use Rattle.af_collect.proofs.charges.charge_message.Given as goal
 
 abbrev pub invariant-loop-file : goal.invariant-loop-file
 invariant-loop-file l = record {

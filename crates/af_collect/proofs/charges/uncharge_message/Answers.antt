@@ -5,7 +5,7 @@ use Rattle.af_ledger.specs.Tally.{Tally, count_in_map, kept_of, without_refs}
 use Rattle.af_ledger.specs.declared.place.Place.TheVariants.{Queue}
 use Rattle.af_ledger.proofs.ManyPlaces.{freed-dropped_all, dropped-more, drop-next}
 use Rattle.af_collect.proofs.CountChanges.{changed-all, counts-alone}
-use Rattle.af_collect.proofs.messages.uncharge_message.Goals as goal
+use Rattle.af_collect.proofs.charges.uncharge_message.Goals as goal
 
 pub drop_one-requires : goal.drop_one-requires
 drop_one-requires c = subst (λ m. IsCounted (Queue c.args.user) (count_in_map m c.file-item.result)) (sym c.loop-file.invariant.counts) (drop-next c.args.user c.args.attached.now c.loop-file.file-index c.file-item.result (kept_of c.args.files.now.counts c.args.ledger.now) c.requires c.loop-file-test.true c.file-item.is).0
