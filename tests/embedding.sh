@@ -6,8 +6,9 @@
 # Builds and runs the examples, and compares their output with what is stored, and the samples of
 # pages with them. Tries bad numbers and refused memory, a program that owns a pipe for each file,
 # threads that share an engine, seeded walks through the calls beside the plain engine, and
-# programs under unixbox. Says in a line what it leaves out, since a tool is missing. The first
-# that fails ends the script; else its last line is 'N passed, 0 failed'.
+# programs under unixbox. Says in a line what it leaves out, since a tool is missing. Each step is
+# tried, also after one that failed. The last line is 'N passed, M failed', and the status is 0
+# only if M is 0.
 set -eu
 if [ $# -ne 1 ]; then
     echo "usage: tests/embedding.sh out/libjaywardrobe.a (make embed builds the library, and calls this)" >&2
@@ -23,30 +24,67 @@ room=$(mktemp -d)
 trap 'rm -rf "$room"' EXIT
 cc=${CC:-cc}
 cxx=${CXX:-c++}
-passed=0
 checks="-std=c11 -O1 -g -Wall -Wextra -Werror -pedantic -Iinclude"
+sanitizers="-fsanitize=address,undefined -fno-sanitize-recover=all"
+programs="examples/c/first.c examples/c/script.c examples/c/sandbox.c examples/c/owned.c
+    tests/hostile.c tests/no_memory.c tests/pipes.c"
+passed=0
+failed=0
 
-passes() {
-    passed=$((passed + 1))
-    echo "embedding: $1"
+# Does a step, and says under this name whether it passed. What it prints is shown where it failed.
+tries() {
+    step=$1
+    shift
+    set +e
+    (set -e; "$@") > "$room/said" 2>&1
+    status=$?
+    set -e
+    if [ $status -eq 0 ]; then
+        passed=$((passed + 1))
+        echo "embedding: $step passed"
+    else
+        failed=$((failed + 1))
+        cat "$room/said" >&2
+        echo "embedding: $step failed" >&2
+    fi
 }
 
-has() {
-    command -v "$1" > /dev/null 2>&1
+# Whether all these programs are there; else says what is left out.
+can() {
+    left_out=$1
+    shift
+    for it; do
+        if ! command -v "$it" > /dev/null 2>&1; then
+            echo "embedding: no $it, so $left_out"
+            return 1
+        fi
+    done
 }
 
-# Builds a program this way, with these words more, and runs it; its output is to be what is stored.
+# Whether programs that are compiled with these words run; else says what is left out.
+can_build() {
+    left_out=$1
+    shift
+    echo 'int main(void) { return 0; }' > "$room/empty.c"
+    if ! $cc "$@" "$room/empty.c" -o "$room/empty" 2> "$room/why" || ! "$room/empty"; then
+        echo "embedding: no $left_out"
+        return 1
+    fi
+}
+
+# Builds a C program, with these words more, and runs it; its output is to be what is stored.
 holds() {
-    way=$1
-    source=$2
-    shift 2
+    source=$1
+    shift
     name=$(basename "$source" .c)
+    if [ "$name" = no_memory ]; then
+        set -- "$@" -Wl,--wrap=malloc,--wrap=realloc
+    fi
     $cc $checks "$source" "$library" -o "$room/$name" "$@"
     "$room/$name" > "$room/$name.out"
     if [ -f "examples/$name.out" ]; then
         diff "examples/$name.out" "$room/$name.out"
     fi
-    passes "$name passed$way"
 }
 
 # The compiler is to warn of this statement, by this option.
@@ -55,9 +93,19 @@ warns() {
         "$1" > "$room/warned.c"
     $cc $checks -Wno-error -c "$room/warned.c" -o "$room/warned.o" 2> "$room/why"
     if ! grep -q "\[-W$2\]" "$room/why"; then
-        echo "embedding: no warning of $1" >&2
+        echo "no warning of $1"
         exit 1
     fi
+}
+
+reads_as_cxx() {
+    echo '#include <jaywardrobe_shared.h>' > "$room/header.cc"
+    $cxx -std=c++11 -Wall -Wextra -Werror -pedantic -Iinclude -fsyntax-only "$room/header.cc"
+}
+
+walks() {
+    $cc -shared -o "$room/libjaywardrobe.so" -Wl,--whole-archive "$library" -Wl,--no-whole-archive
+    python3 tests/walks_from_c.py "$room/libjaywardrobe.so"
 }
 
 # Runs a command of cargo on the crates for Rust, with these words more.
@@ -71,23 +119,6 @@ in_rust() {
 holds_in_rust() {
     in_rust run --example "$1" > "$room/rust.out"
     diff "$2" "$room/rust.out"
-    passes "the Rust program $1 passed"
-}
-
-# Runs a command of cargo that checks the crates for Rust. What it prints is shown where it fails.
-rust_passes() {
-    what=$1
-    shift
-    if ! in_rust "$@" > "$room/rust.out" 2>&1; then
-        cat "$room/rust.out" >&2
-        exit 1
-    fi
-    passes "$what of the Rust crates passed"
-}
-
-# The samples of a page in this language.
-sample() {
-    sed -n "/^\`\`\`$2\$/,/^\`\`\`\$/p" "$1" | sed '/^```/d'
 }
 
 # Builds the crates for Rust with the library that pkg-config has, and against a folder without one.
@@ -99,11 +130,20 @@ finds_the_library() {
         in_rust build
     )
     if (export JAYWARDROBE_LIB_DIR=/dev; in_rust build) > "$room/rust.out" 2>&1; then
-        echo "tests/embedding.sh: the Rust crates were built without a library" >&2
+        echo "the Rust crates were built without a library"
         exit 1
     fi
     grep -q "JAYWARDROBE_LIB_DIR names /dev: no libjaywardrobe.a in it" "$room/rust.out"
-    passes "the search of the Rust crates for the library passed"
+}
+
+# The samples of a page in this language.
+sample() {
+    sed -n "/^\`\`\`$2\$/,/^\`\`\`\$/p" "$1" | sed '/^```/d'
+}
+
+# Compares the sample of a page, in this language, with a program: it is the whole of it.
+is_sample() {
+    sample "$1" "$2" | diff - "$3"
 }
 
 # Compares the sample of a page, in this language, with a program: it has the lines, in this order.
@@ -113,106 +153,72 @@ shows() {
     awk -v page="$1" 'NR == FNR { line[++count] = $0; next }
         $0 == line[found + 1] { found++ }
         END { if (found < count) { print page ": no line of the program: " line[found + 1]; exit 1 } }
-        ' "$room/sample" "$room/lines" >&2
-    passes "the sample of $1 is part of $3"
+        ' "$room/sample" "$room/lines"
 }
 
-shows README.md rust rust/jaywardrobe/examples/owned.rs
-sample docs/EMBEDDING.md c | diff - examples/c/first.c
-passes "the sample of docs/EMBEDDING.md is examples/c/first.c"
-
-if has python3 && has nm; then
-    tools/bindings --check --archive "$library"
-    passes "the headers hold"
-else
-    echo "embedding: no python3 or nm, so the header was not compared with the library"
-fi
-
-if has mandoc; then
-    mandoc -T lint -W warning docs/man/*.[13]
-    passes "the manual pages are well formed"
-else
-    echo "embedding: no mandoc, so the manual pages were not read"
-fi
-
-if has "$cc"; then
-    holds "" examples/c/first.c
-    warns '(void)engine; (void)jw_next_pid(NULL);' nonnull
-    warns 'jw_open(engine, 1);' unused-result
-    passes "null handles and ignored answers are warned of"
-    holds "" examples/c/script.c
-    holds "" examples/c/sandbox.c
-    holds "" examples/c/owned.c
-    holds "" tests/hostile.c
-    holds "" tests/no_memory.c -Wl,--wrap=malloc,--wrap=realloc
-    holds "" tests/pipes.c
-    holds "" tests/threads.c -pthread
-    echo 'int main(void) { return 0; }' > "$room/empty.c"
-    sanitizers="-fsanitize=address,undefined -fno-sanitize-recover=all"
-    under=" under the sanitizers"
-    if $cc $sanitizers "$room/empty.c" -o "$room/empty" 2> "$room/why" && "$room/empty"; then
-        holds "$under" examples/c/first.c $sanitizers
-        holds "$under" examples/c/script.c $sanitizers
-        holds "$under" examples/c/sandbox.c $sanitizers
-        holds "$under" examples/c/owned.c $sanitizers
-        holds "$under" tests/hostile.c $sanitizers
-        holds "$under" tests/no_memory.c $sanitizers -Wl,--wrap=malloc,--wrap=realloc
-        holds "$under" tests/pipes.c $sanitizers
-    else
-        echo "embedding: no address sanitizer, so nothing was run under one"
+tries_in_c() {
+    for it in $programs; do
+        tries "$it" holds "$it"
+    done
+    tries "tests/threads.c" holds tests/threads.c -pthread
+    tries "the warning of a null handle" warns '(void)engine; (void)jw_next_pid(NULL);' nonnull
+    tries "the warning of an ignored answer" warns 'jw_open(engine, 1);' unused-result
+    if can_build "address sanitizer, so nothing was run under one" $sanitizers; then
+        for it in $programs; do
+            tries "$it under the sanitizers" holds "$it" $sanitizers
+        done
     fi
-    if $cc -fsanitize=thread "$room/empty.c" -o "$room/empty" 2> "$room/why" && "$room/empty"; then
-        holds " under the thread sanitizer" tests/threads.c -fsanitize=thread -pthread
-    else
-        echo "embedding: no thread sanitizer, so no threads were run under one"
+    if can_build "thread sanitizer, so no threads were run under one" -fsanitize=thread; then
+        tries "tests/threads.c under the thread sanitizer" holds tests/threads.c -fsanitize=thread -pthread
     fi
-else
-    echo "embedding: no C compiler, so the C programs were not built"
-fi
+}
 
-if has "$cxx"; then
-    echo '#include <jaywardrobe_shared.h>' > "$room/header.cc"
-    $cxx -std=c++11 -Wall -Wextra -Werror -pedantic -Iinclude -fsyntax-only "$room/header.cc"
-    passes "the headers are C++ too"
-else
-    echo "embedding: no C++ compiler, so the headers were not read as C++"
-fi
-
-if has "$cc" && has python3; then
-    $cc -shared -o "$room/libjaywardrobe.so" -Wl,--whole-archive "$library" -Wl,--no-whole-archive
-    python3 tests/walks_from_c.py "$room/libjaywardrobe.so"
-    passes "the walks through C passed"
-else
-    echo "embedding: no C compiler or no python3, so no walk was played through C"
-fi
-
-if has "$cc" && has python3; then
-    tests/unixbox.sh "$library" > "$room/unixbox"
+# Runs programs under unixbox, and counts the lines of those that passed.
+tries_unixbox() {
+    tests/unixbox.sh "$library" > "$room/unixbox" || failed=$((failed + 1))
     cat "$room/unixbox"
     passed=$((passed + $(grep -c ' passed' "$room/unixbox" || true)))
-else
-    echo "embedding: no C compiler or no python3, so no program was run under unixbox"
-fi
+}
 
-if has cargo; then
+tries_in_rust() {
     JAYWARDROBE_LIB_DIR=$(dirname "$library")
     export JAYWARDROBE_LIB_DIR CARGO_TARGET_DIR="$room/cargo" RUSTDOCFLAGS="-D warnings"
-    holds_in_rust sandbox examples/sandbox.out
-    holds_in_rust owned examples/owned.out
-    rust_passes "the tests" test
-    rust_passes "the documentation" doc --no-deps
+    tries "the Rust program sandbox" holds_in_rust sandbox examples/sandbox.out
+    tries "the Rust program owned" holds_in_rust owned examples/owned.out
+    tries "the tests of the Rust crates" in_rust test
+    tries "the documentation of the Rust crates" in_rust doc --no-deps
     if cargo clippy --version > /dev/null 2>&1; then
-        rust_passes "the lints" clippy --all-targets -- -D warnings
+        tries "the lints of the Rust crates" in_rust clippy --all-targets -- -D warnings
     else
         echo "embedding: no clippy, so the Rust crates were not linted"
     fi
-    if has pkg-config; then
-        finds_the_library
-    else
-        echo "embedding: no pkg-config, so the Rust crates were not built with it"
+    if can "the Rust crates were not built with it" pkg-config; then
+        tries "the search of the Rust crates for the library" finds_the_library
     fi
-else
-    echo "embedding: no cargo, so the Rust programs were not built"
-fi
+}
 
-echo "$passed passed, 0 failed"
+tries "the sample of README.md" shows README.md rust rust/jaywardrobe/examples/owned.rs
+tries "the sample of docs/EMBEDDING.md" is_sample docs/EMBEDDING.md c examples/c/first.c
+if can "the header was not compared with the library" python3 nm; then
+    tries "the headers" tools/bindings --check --archive "$library"
+fi
+if can "the manual pages were not read" mandoc; then
+    tries "the form of the manual pages" mandoc -T lint -W warning docs/man/*.[13]
+fi
+if can "the C programs were not built" "$cc"; then
+    tries_in_c
+fi
+if can "the headers were not read as C++" "$cxx"; then
+    tries "the headers as C++" reads_as_cxx
+fi
+if can "no walk was played through C" "$cc" python3; then
+    tries "the walks through C" walks
+fi
+if can "no program was run under unixbox" "$cc" python3; then
+    tries_unixbox
+fi
+if can "the Rust programs were not built" cargo; then
+    tries_in_rust
+fi
+echo "$passed passed, $failed failed"
+[ "$failed" -eq 0 ]
