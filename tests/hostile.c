@@ -192,7 +192,7 @@ static int passes(void) {
 }
 
 /* Each call on a handle without an engine. */
-static void without_an_engine(void) {
+static void events_without_an_engine(void) {
     REFUSED(jw_spawn(&engine, 7, 1, false), JW_ENOENGINE);
     REFUSED(jw_open(&engine, 1), JW_ENOENGINE);
     REFUSED(jw_dup(&engine, 1, 0), JW_ENOENGINE);
@@ -213,6 +213,9 @@ static void without_an_engine(void) {
     REFUSED(jw_begin(&engine, &places.number), JW_ENOENGINE);
     REFUSED(jw_slice(&engine, 1, &places.finished), JW_ENOENGINE);
     REFUSED(jw_pass(&engine, &places.finished), JW_ENOENGINE);
+}
+
+static void views_without_an_engine(void) {
     REFUSED(jw_refs(&engine, 1, &places.number), JW_ENOENGINE);
     REFUSED(jw_inflight(&engine, 1, &places.number), JW_ENOENGINE);
     REFUSED(jw_charged(&engine, 7, &places.number), JW_ENOENGINE);
@@ -234,6 +237,11 @@ static void without_an_engine(void) {
     REFUSED(jw_changed(&engine, places.inos, 4), JW_ENOENGINE);
     REFUSED(jw_changed(&engine, places.inos, 0), JW_ENOENGINE);
     REFUSED(jw_clear_told(&engine), JW_ENOENGINE);
+}
+
+static void without_an_engine(void) {
+    events_without_an_engine();
+    views_without_an_engine();
 }
 
 /* Under a limit of 0 what is open stays open, and no other number can be had. */
@@ -473,15 +481,12 @@ static int cut(void) {
     return 0;
 }
 
-int main(void) {
+/* Makes an engine with a process, a pair, a file, and two sockets of which one listens. A message
+ * with a file waits. */
+static int start(void) {
     struct jw_pair pair;
-    struct jw_checked checked;
     const uint8_t hi[2] = {'h', 'i'};
 
-    memset(big, 'a', sizeof big);
-    memset(&places, 0xa5, sizeof places);
-    memcpy(&untouched, &places, sizeof places);
-    without_an_engine();
     MUST(jw_engine_new(&engine) == 0);
     MUST(jw_spawn(&engine, 7, 8, false) == 1);
     MUST(jw_pair(&engine, 1, JW_SEQPACKET, &pair) == 0 && pair.first == 0 && pair.second == 1);
@@ -491,7 +496,15 @@ int main(void) {
     MUST(jw_bind(&engine, 1, 4, "taken", 5) == 0);
     MUST(jw_listen(&engine, 1, 4, 1) == 0);
     MUST(jw_send(&engine, 1, 1, hi, 2, &pair.first, 1) == 2);
+    return 0;
+}
 
+/* Calls what the first engine has to refuse or to answer. */
+static int first_engine(void) {
+    struct jw_checked checked;
+
+    if (start() != 0)
+        return 1;
     by_strangers(STRANGER);
     by_strangers(NO_PID);
     by_strangers(LAST);
@@ -503,7 +516,15 @@ int main(void) {
     MUST(jw_check(&engine, &checked) == 0 && checked.live == 5 && checked.garbage == 0);
     if (tables() != 0 || texts() != 0 || nulls() != 0 || roomy() != 0 || numbers() != 0)
         return 1;
-    if (cut() != 0)
+    return cut();
+}
+
+int main(void) {
+    memset(big, 'a', sizeof big);
+    memset(&places, 0xa5, sizeof places);
+    memcpy(&untouched, &places, sizeof places);
+    without_an_engine();
+    if (first_engine() != 0)
         return 1;
 
     jw_engine_free(&engine);

@@ -74,15 +74,9 @@ static bool same(struct view a, struct view b) {
             failures++, fprintf(stderr, "line %d\n", __LINE__); \
     } while (0)
 
-static void life(void) {
-    struct jw_pair pair = {0, 0};
-    struct jw_received got = {0, false, false};
-    struct jw_finished finished = {0, 0};
-    struct jw_checked checked = {0, 0};
-    struct jw_ready ready;
-    uint8_t bytes[8];
-    uint32_t fds[8];
-    uint64_t ino, inos[16];
+/* Both lists, of a file that is opened and closed. */
+static void lists(void) {
+    uint64_t inos[16];
 
     DONE(jw_spawn(&engine, 7, 64, false), 1);
     DONE(jw_open(&engine, 1), 0);
@@ -92,11 +86,20 @@ static void life(void) {
     FREE(jw_released(&engine, inos, 16) == 1 && inos[0] == 1, true);
     FREE(jw_changed(&engine, inos, 16), 0);
     FREE(jw_clear_told(&engine), 0);
+}
+
+/* A message with two files, while a pass marks: refused, peeked at, received. */
+static void message(void) {
+    struct jw_pair pair = {0, 0};
+    struct jw_received got = {0, false, false};
+    struct jw_finished finished = {0, 0};
+    uint8_t bytes[8];
+    uint32_t fds[8] = {2, 0};
+
     DONE(jw_pair(&engine, 1, JW_STREAM, &pair), 0);
     DONE(jw_open(&engine, 1), 2);
     DONE(jw_dup(&engine, 1, 2), 3);
     DONE(jw_dup2(&engine, 1, 2, 40), 40);
-    fds[0] = 2, fds[1] = 0;
     DONE(jw_send(&engine, 1, 1, "hello", 5, fds, 2), 5);
     FREE(jw_begin(&engine, &finished.pass), 0);
     FREE(jw_slice(&engine, 1, &finished), 1);
@@ -109,6 +112,12 @@ static void life(void) {
     DONE(jw_recv(&engine, 1, 0, bytes, 8, fds, 8, &got), 5);
     FREE(got.fds == 2 && memcmp(bytes, "hello", 5) == 0, true);
     FREE(jw_limit(&engine, 1, 128), 0);
+}
+
+/* A child, and a listener with a connection, whose client is sent through it. */
+static void listener(void) {
+    const uint32_t client = 7;
+
     DONE(jw_fork(&engine, 1), 2);
     DONE(jw_socket(&engine, 1, JW_SEQPACKET), 6);
     DONE(jw_bind(&engine, 1, 6, "name", 4), 0);
@@ -116,8 +125,16 @@ static void life(void) {
     DONE(jw_socket(&engine, 1, JW_SEQPACKET), 7);
     DONE(jw_connect(&engine, 1, 7, "name", 4), 0);
     DONE(jw_accept(&engine, 1, 6), 8);
-    fds[0] = 7;
-    DONE(jw_send(&engine, 1, 7, "me", 2, fds, 1), 2);
+    DONE(jw_send(&engine, 1, client, "me", 2, &client, 1), 2);
+}
+
+/* Views and reports. */
+static void reports(void) {
+    struct jw_checked checked = {0, 0};
+    struct jw_ready ready;
+    uint8_t bytes[8];
+    uint64_t ino;
+
     DONE(jw_check(&engine, &checked), 0);
     /* The picture is longer than the place, and has the same length each time. */
     int64_t length = jw_graph(&engine, bytes, 0);
@@ -125,14 +142,25 @@ static void life(void) {
         refusals++, length = jw_graph(&engine, bytes, 0);
     DONE(jw_graph(&engine, bytes, sizeof bytes), length);
     FREE(length > 500 && memcmp(bytes, "digraph ", 8) == 0, true);
-    FREE(jw_poll(&engine, 1, 6, &ready) == 0 && jw_next_fd(&engine, 1, 0, &ino) == 0 && jw_ino(&engine, 1, 0, &ino) == 0, true);
+    FREE(jw_poll(&engine, 1, 6, &ready), 0);
+    FREE(jw_next_fd(&engine, 1, 0, &ino), 0);
+    FREE(jw_ino(&engine, 1, 0, &ino), 0);
+}
+
+static void life(void) {
+    struct jw_finished finished = {0, 0};
+    uint64_t live = 1, inos[16];
+
+    lists();
+    message();
+    listener();
+    reports();
     FREE(jw_exit(&engine, 2), 0);
     FREE(jw_close(&engine, 1, 40), 0);
     FREE(jw_exit(&engine, 1), 0);
     FREE(jw_slice(&engine, 65536, &finished), 0);
     FREE(jw_pass(&engine, &finished), 0);
-    FREE(jw_live(&engine, &checked.live), 0);
-    FREE(checked.live == 0, true);
+    FREE(jw_live(&engine, &live) == 0 && live == 0, true);
     FREE(jw_released(&engine, inos, 16), 6);
     FREE(jw_changed(&engine, inos, 16), 0);
     FREE(jw_clear_told(&engine), 0);

@@ -45,13 +45,31 @@ static void show(const char *when, jw_engine *engine, int reading_end) {
     printf("%-20s %" PRIu64 " files live, host descriptor %s\n", when, live, state);
 }
 
+/* Opens a file with a host descriptor behind it. */
+static uint32_t open_owned(jw_engine *engine, uint32_t pid, int descriptor) {
+    uint64_t ino;
+    uint32_t file = (uint32_t)must("open", jw_open(engine, pid));
+    must("ino", jw_ino(engine, pid, file, &ino));
+    host[ino] = descriptor;
+    return file;
+}
+
+/* Makes a whole pass by slices, and closes what each of them frees. */
+static void collect(jw_engine *engine) {
+    struct jw_finished finished;
+    uint64_t pass;
+    int64_t runs;
+    must("begin", jw_begin(engine, &pass));
+    do {
+        runs = must("slice", jw_slice(engine, BUDGET, &finished));
+        close_released(engine);
+    } while (runs == 1);
+}
+
 int main(void) {
     jw_engine engine = JW_ENGINE_INIT;
     struct jw_pair pair;
     struct jw_received got;
-    struct jw_finished finished;
-    uint64_t ino, pass;
-    int64_t runs;
     uint32_t fds[2];
     uint8_t text[16] = "take this";
     int ends[2];
@@ -64,9 +82,7 @@ int main(void) {
     must("pair", jw_pair(&engine, parent, JW_SEQPACKET, &pair));
     uint32_t child = (uint32_t)must("fork", jw_fork(&engine, parent));
 
-    uint32_t file = (uint32_t)must("open", jw_open(&engine, parent));
-    must("ino", jw_ino(&engine, parent, file, &ino));
-    host[ino] = ends[1];
+    uint32_t file = open_owned(&engine, parent, ends[1]);
     show("opened", &engine, ends[0]);
 
     must("send", jw_send(&engine, parent, pair.first, text, 9, &file, 1));
@@ -83,11 +99,7 @@ int main(void) {
     close_released(&engine);
     show("lost in a cycle", &engine, ends[0]);
 
-    must("begin", jw_begin(&engine, &pass));
-    do {
-        runs = must("slice", jw_slice(&engine, BUDGET, &finished));
-        close_released(&engine);
-    } while (runs == 1);
+    collect(&engine);
     show("collected", &engine, ends[0]);
 
     jw_engine_free(&engine);
