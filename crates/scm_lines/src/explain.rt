@@ -41,7 +41,7 @@ enum Last {
     Items,
 }
 
-/// Returns why a word is not of the wanted kind; `None` if it is.
+/// Returns why `word` is not of the wanted kind; `None` if it is.
 fn why_word(wanted: Wanted, word: &[u8]) -> Option<Misfit>
     ensures exact { is_some result ≡ not (fits_word wanted word.now) }
     ensures within { IfSome result (λ m. m.left ≤ length word.now) }
@@ -78,7 +78,7 @@ fn why_privilege(bytes: &[u8]) -> Option<Misfit>
     }
 }
 
-/// Returns why the last words of a line are not of the wanted kind; `None` if they are.
+/// Returns why a line's last words are not of the kind `last`; `None` if they are.
 fn why_last(last: Last, bytes: &[u8]) -> Option<Misfit>
     ensures exact { is_some result ≡ not (fits_last last (words_of bytes.now)) }
     ensures within { IfSome result (λ m. m.left ≤ length bytes.now) }
@@ -98,7 +98,7 @@ fn missing_word() -> Misfit
     Misfit::at(Reason::WordMissing, b"")
 }
 
-/// Returns why words are not of a form; `None` if they are.
+/// Returns why words are not of the form of `wanted` and `last`; `None` if they are.
 fn why_words(wanted: &[Wanted], last: Last, bytes: &[u8]) -> Option<Misfit>
     ensures exact { is_some result ≡ not (fits_words wanted.now last (words_of bytes.now)) }
     ensures within { IfSome result (λ m. m.left ≤ length bytes.now) }
@@ -118,7 +118,7 @@ fn why_words(wanted: &[Wanted], last: Last, bytes: &[u8]) -> Option<Misfit>
     why_last(last, rest)
 }
 
-/// Returns why the words behind a verb are not of its form; `None` if they are.
+/// Returns why the words behind `verb` are not of its form; `None` if they are.
 fn why_step(verb: Verb, bytes: &[u8]) -> Option<Misfit>
     ensures exact { is_some result ≡ is_none (read_form (verb_row verb).1 (words_of bytes.now)) }
     ensures within { IfSome result (λ m. m.left ≤ length bytes.now) }
@@ -156,7 +156,7 @@ fn why_process(version: Version, bytes: &[u8]) -> Option<Misfit>
     Some(Misfit::at(Reason::NeedsVersion2, word).before(rest))
 }
 
-/// Returns why the words behind a keyword are not of its form; `None` if they are.
+/// Returns why the words behind `keyword` are not of its form; `None` if they are.
 fn why_keyword(keyword: Keyword, bytes: &[u8]) -> Option<Misfit>
     ensures exact { is_some result ≡ is_none (read_form (line_row keyword).1 (words_of bytes.now)) }
     ensures within { IfSome result (λ m. m.left ≤ length bytes.now) }
@@ -171,7 +171,7 @@ fn why_keyword(keyword: Keyword, bytes: &[u8]) -> Option<Misfit>
     }
 }
 
-/// Returns whether a line with this keyword can come now.
+/// Returns whether a line with `keyword` can come after the lines so far.
 fn has_keyword(version: Version, keyword: Keyword) -> bool
     ensures { result ≡ has_keyword version keyword }
 {
@@ -188,7 +188,7 @@ fn first_misfit(word: &[u8]) -> Misfit
     }
 }
 
-/// Returns why a line that begins with this word is of no form; `None` if it has one.
+/// Returns why a line that begins with `word` is of no form; `None` if it has one.
 #[tactic(auto, using(crate::proofs::VersionsFit::form_in_process, crate::proofs::VersionsFit::form_in_other))]
 fn why_form(version: Version, word: &[u8], rest: &[u8]) -> Option<Misfit>
     requires { length word.now + length rest.now < 2 ^ 63 }
@@ -229,11 +229,11 @@ fn why_line(version: Version, bytes: &[u8]) -> Option<Misfit>
     why_form(version, word, rest)
 }
 
-/// Returns why the next line of a script of this version cannot be read, and at which column.
+/// Returns why the next line of a script of `version` cannot be read, and at which column.
 ///
 /// `bytes` is the line without its end. A line that can be read has no reason. A line of too many
 /// bytes comes first, then a byte that is not printable, then the first word that does not fit, and
-/// last an event that the script's version does not have. It takes no memory.
+/// last an event that the script's version does not have. Takes no memory.
 #[tactic(auto, using(crate::proofs::LinesFit::too_long))]
 pub fn why(version: Version, bytes: &[u8]) -> Option<Unreadable>
     ensures exact { is_some result ≡ is_none (read_in version bytes.now) }

@@ -205,7 +205,7 @@ pub fn limit(rest: &[u8]) -> Option<u32>
 
 // ---- a step as a value
 
-/// Reads the step `bind`, and copies its name.
+/// Reads the step `bind`, and copies the name.
 fn bind_step(alloc: Global, rest: &[u8]) -> Result<Step, LineFault>
     ensures { Reads (read_form (verb_row verb.Bind).1 (words_of rest.now)) result }
 {
@@ -216,7 +216,7 @@ fn bind_step(alloc: Global, rest: &[u8]) -> Result<Step, LineFault>
     Ok(Step::Bind { on, name })
 }
 
-/// Reads the step `connect`, and copies its name.
+/// Reads the step `connect`, and copies the name.
 fn connect_step(alloc: Global, rest: &[u8]) -> Result<Step, LineFault>
     ensures { Reads (read_form (verb_row verb.Connect).1 (words_of rest.now)) result }
 {
@@ -260,7 +260,7 @@ fn peek_step(rest: &[u8]) -> Option<Step>
     })
 }
 
-/// Reads the step of this verb.
+/// Reads the step of `verb`.
 fn step(alloc: Global, verb: Verb, rest: &[u8]) -> Result<Step, LineFault>
     ensures read { Reads (read_form (verb_row verb).1 (words_of rest.now)) result }
     ensures memory { IfErr result
@@ -343,7 +343,7 @@ fn version(rest: &[u8]) -> Option<Line>
     }
 }
 
-/// Reads a line that begins with this keyword.
+/// Reads a line that begins with `keyword`.
 fn line(keyword: Keyword, rest: &[u8]) -> Result<Line, LineFault>
     ensures read { Reads (read_form (line_row keyword).1 (words_of rest.now)) result }
     ensures no_memory { IfErr result (λ f. f ≡ fault.Unreadable) }
@@ -361,7 +361,7 @@ fn line(keyword: Keyword, rest: &[u8]) -> Result<Line, LineFault>
     read.ok_or(LineFault::Unreadable)
 }
 
-/// Reads a line that begins with this word.
+/// Reads a line that begins with `word`.
 #[tactic(auto, unfolding(crate::specs::Meaning::form_of))]
 pub(crate) fn form(alloc: Global, word: &[u8], rest: &[u8]) -> Result<Line, LineFault>
     ensures read { Reads (form_of word.now (words_of rest.now)) result }

@@ -94,7 +94,7 @@ fn meaning<V: Copy>(mut table: &[(&[u8], V)], word: &[u8]) -> Option<V>
     None
 }
 
-/// Returns the keyword of a line's first word, if it is one.
+/// Returns the keyword that a line's first word names, if it names one.
 pub fn keyword_named(word: &[u8]) -> Option<Keyword>
     ensures { result ≡ row_named line_row keywords word.now }
 {
@@ -116,7 +116,7 @@ pub fn event_at(bytes: &[u8]) -> Option<(Keyword, &[u8])>
     }
 }
 
-/// Returns the verb that the word after a process's number names, if it is one. The verbs that
+/// Returns the verb that `word`, after a process's number, names, if it names one. The verbs that
 /// scripts use most are tried first.
 pub fn verb_named(word: &[u8]) -> Option<Verb>
     ensures { result ≡ row_named verb_row verbs word.now }

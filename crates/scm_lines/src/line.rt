@@ -39,7 +39,7 @@ pub enum Line {
     Report(Report),
 }
 
-/// Returns whether a line with this first word is a comment.
+/// Returns whether a line whose first word is `word` is a comment.
 pub fn begins_comment(word: &[u8]) -> bool
     ensures { result ≡ begins_comment word.now }
 {

@@ -26,7 +26,7 @@ pub struct Misfit {
 }
 
 impl Misfit {
-    /// Makes a misfit at the first of these bytes.
+    /// Makes a misfit at the first byte of `bytes`.
     pub fn at(reason: Reason, bytes: &[u8]) -> Misfit
         ensures reason { result.reason ≡ reason }
         ensures left { result.left ≡ length bytes.now }
@@ -37,7 +37,7 @@ impl Misfit {
         }
     }
 
-    /// Returns the misfit as one of a longer text: these bytes follow those looked at.
+    /// Returns the misfit as one of a longer text: `rest` follows the bytes looked at.
     pub fn before(self, rest: &[u8]) -> Misfit
         requires { self.left + length rest.now < 2 ^ 64 }
         ensures reason { result.reason ≡ self.reason }
@@ -101,7 +101,7 @@ pub fn number_misfit(word: &[u8]) -> Misfit
     Misfit::at(digits_reason(word), word)
 }
 
-/// Returns why a word is not read as a number; `None` if it is.
+/// Returns why `word` is not read as a number; `None` if it is.
 pub fn why_number(word: &[u8]) -> Option<Misfit>
     ensures exact { is_some result ≡ is_none (word_number word.now) }
     ensures reason { IfSome result (λ m. m.reason ≡ number_reason word.now) }
@@ -113,7 +113,7 @@ pub fn why_number(word: &[u8]) -> Option<Misfit>
     }
 }
 
-/// Returns why a word is no type of sockets; `None` if it is.
+/// Returns why `word` is no type of sockets; `None` if it is.
 pub fn why_type(word: &[u8]) -> Option<Misfit>
     ensures exact { is_some result ≡ is_none (type_of word.now) }
     ensures within { IfSome result (λ m. m.left ≤ length word.now) }
@@ -124,7 +124,7 @@ pub fn why_type(word: &[u8]) -> Option<Misfit>
     }
 }
 
-/// Returns why the digits behind a `*` are no count of letters; `None` if they are.
+/// Returns why `digits`, behind a `*`, are no count of letters; `None` if they are.
 fn why_letters(digits: &[u8]) -> Option<Misfit>
     ensures exact { is_some result ≡ is_none (payload_of (42 ∷ digits.now)) }
     ensures within { IfSome result (λ m. m.left ≤ length digits.now) }
@@ -148,7 +148,7 @@ fn byte_misfit(word: &[u8]) -> Misfit
     }
 }
 
-/// Returns why characters spell no bytes of a message; `None` if they do.
+/// Returns why `word` spells no bytes of a message; `None` if it does.
 #[tactic(auto, using(crate::proofs::FittingLemmas::counted_byte))]
 fn why_spelled(word: &[u8]) -> Option<Misfit>
     ensures exact { is_some result ≡ is_none (at_most 65537 (unescape word.now)) }
@@ -169,7 +169,7 @@ fn why_spelled(word: &[u8]) -> Option<Misfit>
     None
 }
 
-/// Returns why a word has no bytes of a message; `None` if it has.
+/// Returns why `word` has no bytes of a message; `None` if it has.
 pub fn why_payload(word: &[u8]) -> Option<Misfit>
     ensures exact { is_some result ≡ is_none (payload_of word.now) }
     ensures within { IfSome result (λ m. m.left ≤ length word.now) }

@@ -9,7 +9,7 @@ use crate::words::{ends_word, first_word, without_space};
 /// The most digits of a number.
 const MAX_DIGITS: usize = 10;
 
-/// Every number of at most this many digits fits in a `u32`.
+/// A number of at most `FEW_DIGITS` digits fits in a `u32`.
 const FEW_DIGITS: usize = 9;
 
 /// Reads the number of a word.
@@ -48,8 +48,8 @@ pub fn number_in(bytes: &[u8]) -> Option<(u32, &[u8])>
     any_number_in(bytes)
 }
 
-/// Reads the first word as a number of any length, and returns the bytes after it. It is a function
-/// of its own, so that a number of one digit costs little.
+/// Reads the first word as a number of any length, and returns the bytes after it. A function of
+/// its own, so that a number of one digit costs little.
 #[inline(never)]
 fn any_number_in(bytes: &[u8]) -> Option<(u32, &[u8])>
     ensures { option_map (λ found. (found.0, words_of found.1.now)) result
@@ -63,7 +63,8 @@ fn any_number_in(bytes: &[u8]) -> Option<(u32, &[u8])>
 }
 
 /// Reads the first word as a number of at most nine digits that begins with no 0, in one pass, and
-/// returns the bytes after it. `None` says nothing of the word.
+/// returns the bytes after it. `None` does not mean that the word is no number: the caller tries
+/// `number`.
 #[inline(always)]
 fn short_number_in(bytes: &[u8]) -> Option<(u32, &[u8])>
     ensures { IfSome result (λ found.

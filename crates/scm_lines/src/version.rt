@@ -37,7 +37,7 @@ pub enum Version {
 }
 
 impl Version {
-    /// Returns whether a script of this version may have this line next.
+    /// Returns whether a script of this version may have `line` next.
     fn has(self, line: &Line) -> bool
         ensures { result ≡ has_line self line.now }
     {
@@ -48,7 +48,7 @@ impl Version {
         }
     }
 
-    /// Returns the version after this line.
+    /// Returns the version after `line`.
     pub fn after(self, line: &Line) -> Version
         ensures { result ≡ version_after self line.now }
     {
@@ -77,7 +77,7 @@ fn is_later(step: &Step) -> bool
     matches!(step, Step::Peek { .. } | Step::Limit(_))
 }
 
-/// Returns whether a script of this version may have steps of this verb.
+/// Returns whether a script of `version` may have steps of `verb`.
 pub fn has_verb(version: Version, verb: Verb) -> bool
     ensures { result ≡ has_verb version verb }
 {
@@ -123,7 +123,7 @@ pub fn keyword_in(bytes: &[u8]) -> Option<(Keyword, &[u8])>
     }
 }
 
-/// Reads the next line of a script of this version. [`LineFault::Unreadable`]: [`line_of`] cannot
+/// Reads the next line of a script of `version`. [`LineFault::Unreadable`]: [`line_of`] cannot
 /// read it, or the script may not have it there. [`LineFault::Memory`]: as of [`line_of`].
 pub fn read_in(alloc: Global, version: Version, bytes: &[u8]) -> Result<Line, LineFault>
     ensures read { Reads (read_in version bytes.now) result }

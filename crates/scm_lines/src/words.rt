@@ -72,7 +72,7 @@ pub fn first_word(bytes: &[u8]) -> Option<(&[u8], &[u8])>
     }
 }
 
-/// Returns whether a word ends before these bytes.
+/// Returns whether a word ends before `bytes`.
 #[inline(always)]
 pub fn ends_word(bytes: &[u8]) -> bool
     ensures { result ≡ ends_word bytes.now }
