@@ -83,7 +83,7 @@ AcceptTakesTheFirstEmbryo = (old new : World) (p n m f : ℕ) → IsSound old
     → (backlog_at new (ino_on old p n) ≡ drop 1 (backlog_at old (ino_on old p n)))
     × (waiting new f + one f (first_embryo old p n) ≡ waiting old f)
 
--- The new descriptor refers to it.
+-- The descriptor that an accept answers refers to the first embryo.
 abbrev pub AcceptedNumberIsTheEmbryo : Type 0
 AcceptedNumberIsTheEmbryo = (old new : World) (p n m : ℕ) → IsSound old
     → ProcessStep old p (step.Accept n) (reply.Fd m) new

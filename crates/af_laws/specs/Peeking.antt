@@ -22,7 +22,7 @@ PeekChangesNoCharge = (old new : World) (p n max_bytes max_fds : ℕ) (r : Reply
     → ProcessStep old p (step.Peek n max_bytes max_fds) r new
     → (u : ℕ) → charged new u ≡ charged old u
 
--- A peek keeps the set of files in flight (unix(7): until it is accepted by a receive).
+-- A peek changes no file's in-flight count (unix(7): until it is accepted by a receive).
 abbrev pub PeekChangesNoFlight : Type 0
 PeekChangesNoFlight = (old new : World) (p n max_bytes max_fds : ℕ) (r : Reply) → IsSettled old
     → ProcessStep old p (step.Peek n max_bytes max_fds) r new

@@ -21,7 +21,7 @@ abbrev pub PurgesBoth : Type 0
 PurgesBoth = (some others : ℕ → Bool) (w v new : World) → Purges some w v → Purges others v new
     → Purges (λ f. some f || others f) w new
 
--- So the order of two purges does not matter.
+-- The order of two purges does not matter.
 abbrev pub PurgesInAnyOrder : Type 0
 PurgesInAnyOrder = (some others : ℕ → Bool) (w v x a b : World) → Purges some w v
     → Purges others v a → Purges others w x → Purges some x b → a ≡ b
@@ -34,7 +34,7 @@ pub record SparesReached (old new : World) : Type 0 where
   pub backlogs : (f : ℕ) → Reached old f → option_map_or backlog_of (map.get new.files f) []
       ≡ option_map_or backlog_of (map.get old.files f) []
 
--- A whole pass spares what is reached, whatever the answer.
+-- A whole pass changes no table, and no queue or backlog of what is reached, whatever the answer.
 abbrev pub PassSparesTheReached : Type 0
 PassSparesTheReached = (old new : Machine) (r : Reply) → Step old event.Pass r new
     → SparesReached old.world new.world
@@ -78,14 +78,15 @@ SlicesAreAPass = (old new : Machine) (slices : List RunEntry) (started b pass co
     ++ (event.Slice b, reply.Done pass count) ∷ []) new
     → Step old event.Pass (reply.Done pass count) new
 
--- And a whole pass that is done is a begin and one slice of the largest budget.
+-- A whole pass that is done is a begin and one slice of the largest budget.
 abbrev pub PassIsOneSlice : Type 0
 PassIsOneSlice = (old new : Machine) (pass count : ℕ) → IsSound old.world
     → Step old event.Pass (reply.Done pass count) new
     → Run old ((event.Begin, reply.Started pass)
     ∷ (event.Slice MAX_BUDGET, reply.Done pass count) ∷ []) new
 
--- While no garbage of the begin is reached, a slice spares what is reached, whatever the answer.
+-- While no garbage of the begin is reached, a slice changes no table, and no queue or backlog of
+-- what is reached, whatever the answer.
 abbrev pub SlicesSpareTheReached : Type 0
 SlicesSpareTheReached = (old new : Machine) (begun : World) (spent b : ℕ) (r : Reply)
     → old.pass ≡ Running begun spent → ((f : ℕ) → Garbage begun f → ¬ (Reached old.world f))

@@ -24,12 +24,12 @@ abbrev pub PlacesKeepReached : Type 0
 PlacesKeepReached =
     (old new : World) → HasPlacesOf new old → (f : ℕ) → Reached old f → Reached new f
 
--- It stays reached where a free descriptor is opened.
+-- A reached file stays reached where a free descriptor is opened.
 abbrev pub InstallKeepsReached : Type 0
 InstallKeepsReached = (w : World) (p n g f : ℕ) → table_at w p n ≡ None → Reached w f
     → Reached (install w p n g) f
 
--- It stays reached where a message is sent.
+-- A reached file stays reached where a message is sent.
 abbrev pub SendKeepsReached : Type 0
 SendKeepsReached =
     (w : World) (s : ℕ) (m : Message) (f : ℕ) → Reached w f → Reached (push_message w s m) f
@@ -72,7 +72,7 @@ abbrev pub StepReachesNoGarbage : Type 0
 StepReachesNoGarbage = (old new : World) (p : ℕ) (s : Step) (r : Reply) → IsWhole old
     → ProcessStep old p s r new → (f : ℕ) → IsLive old f → Reached new f → Reached old f
 
--- So what is garbage is out of reach after any event, whatever the answer.
+-- Garbage is out of reach after any event, whatever the answer.
 abbrev pub GarbageStaysOutOfReach : Type 0
 GarbageStaysOutOfReach = (old new : Machine) (e : Event) (r : Reply) → IsWhole old.world
     → MachineStep old e r new → (f : ℕ) → Garbage old.world f → ¬ (Reached new.world f)

@@ -98,7 +98,7 @@ pub record IsSmallestCycle (w : World) : Type 0 where
   pub counted : IsGarbageCount w 1
   pub reached : Reached w 2
 
--- These events may have these replies, and lead to such a world.
+-- The smallest cycle: four events lead to a socket in its own queue, garbage and charged for.
 abbrev pub SmallestCycle : Type 0
 SmallestCycle = (m : Machine) × Run fresh cycle_events m × IsSmallestCycle m.world
 
@@ -110,7 +110,7 @@ pub record IsCollected (w : World) : Type 0 where
   pub counted : IsGarbageCount w 0
   pub hung_up : ProcessStep w 1 (step.Send 1 (120 ∷ []) []) (reply.Refused EPIPE) w
 
--- A whole pass after them counts one, frees the cycle, and leaves such a world.
+-- A whole pass after those of the smallest cycle counts one, frees it, and ends its charge.
 abbrev pub CycleIsCollected : Type 0
 CycleIsCollected = (m : Machine) × (after : Machine) × Run fresh cycle_events m
     × Step m event.Pass (reply.Done 1 1) after × IsCollected after.world

@@ -50,7 +50,7 @@ abbrev pub RepliesDetermine : Type 0
 RepliesDetermine = (old a b : Machine) (e : Event) (r : Reply) → LeavesNoChoice e → Step old e r a
     → Step old e r b → a ≡ b
 
--- So a log of such events with their replies leads to one machine.
+-- A log of events that leave nothing to choose leads, with its replies, to one machine.
 abbrev pub LogDetermines : Type 0
 LogDetermines = (old a b : Machine) (log : List RunEntry) → All (λ e. LeavesNoChoice e.0) log
     → Run old log a → Run old log b → a ≡ b
@@ -74,7 +74,7 @@ abbrev pub EventsKeepSound : Type 0
 EventsKeepSound = (old new : Machine) (e : Event) (r : Reply) → IsSound old.world → Step old e r new
     → IsSound new.world
 
--- So every run from the beginning leads to a sound world.
+-- Every run from the beginning leads to a sound world.
 abbrev pub RunsAreSound : Type 0
 RunsAreSound = (m : Machine) (log : List RunEntry) → Run fresh log m → IsSound m.world
 

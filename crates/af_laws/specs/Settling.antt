@@ -43,7 +43,7 @@ CyclesStay = (w : World) (cycle : ℕ → Bool)
 abbrev pub UnplacedIsUnheld : Type 0
 UnplacedIsUnheld = (w : World) (f : ℕ) → IsLive w f → ¬ (IsHeld w f) → Unheld w f
 
--- To take such a file away first leaves the outcome of settling as it was.
+-- To free first a live file that no place holds leaves the outcome of settling as it was.
 abbrev pub UnplacedGoesFirst : Type 0
 UnplacedGoesFirst = (w new : World) (f : ℕ) → IsLive w f → ¬ (IsHeld w f)
     → Settles w new ↔ Settles (without (nat_eq f) w) new

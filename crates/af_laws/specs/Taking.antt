@@ -27,7 +27,7 @@ PacketKeepsFiles = (q : List Message) (n : ℕ) →
     let taken = take_seqpacket q n in
     taken.attached ++ attached_in taken.rest ≡ attached_in q
 
--- It says that bytes were dropped exactly where some were (recvmsg(2), MSG_TRUNC).
+-- A packet says that bytes were dropped exactly where some were (recvmsg(2), MSG_TRUNC).
 abbrev pub PacketTellsOfDrops : Type 0
 PacketTellsOfDrops = (m : Message) (q : List Message) (n : ℕ)
     → IsTrue (take_seqpacket (m ∷ q) n).trunc ↔ (0 < length (drop n m.bytes))
@@ -44,11 +44,12 @@ StreamKeepsFiles = (q : List Message) (n : ℕ) → HaveBytes q →
     let taken = take_stream q n in
     taken.attached ++ attached_in taken.rest ≡ attached_in q
 
--- It takes at most as many bytes as it was asked for.
+-- A receive from a stream takes at most as many bytes as it was asked for.
 abbrev pub StreamTakesAtMost : Type 0
 StreamTakesAtMost = (q : List Message) (n : ℕ) → length (take_stream q n).bytes ≤ n
 
--- It takes no byte past the first message with files (unix(7): ancillary data are a barrier).
+-- A receive from a stream takes no byte past the first message with files (unix(7): ancillary data
+-- are a barrier).
 abbrev pub StreamStopsAtFiles : Type 0
 StreamStopsAtFiles = (q : List Message) (n : ℕ) (m : Message) → find has_files q ≡ Some m
     → length (take_stream q n).bytes ≤ bytes_before_files q + length m.bytes

@@ -16,22 +16,23 @@ pub fn bound_sockets_are_found()
     ensures { BoundSocketsAreFound }
 {}
 
-/// A bind changes no count: a name holds nothing.
+/// A bind changes no count, whatever the answer: a name holds nothing.
 pub fn bind_changes_no_count()
     ensures { BindChangesNoCount }
 {}
 
-/// A listen changes no count.
+/// A listen changes no count, whatever the answer.
 pub fn listen_changes_no_count()
     ensures { ListenChangesNoCount }
 {}
 
-/// A connect makes a live embryo, and the listener's backlog is its only place.
+/// A connect makes a live embryo; the listener's backlog is its only place.
 pub fn connect_makes_an_embryo()
     ensures { ConnectMakesAnEmbryo }
 {}
 
-/// A connect is one reference more to the embryo, and puts nothing in flight.
+/// A connect is one reference more to the embryo, and none to any other file; nothing more is in
+/// flight.
 pub fn connect_counts()
     ensures { ConnectCounts }
 {}
@@ -41,13 +42,14 @@ pub fn connect_charges_nobody()
     ensures { ConnectChargesNobody }
 {}
 
-/// An accept keeps all reference counts, that of the embryo too.
+/// An accept keeps all reference counts, that of the embryo too: a number takes the place of the
+/// backlog.
 pub fn accept_keeps_references()
     ensures { AcceptKeepsReferences }
 {}
 
 /// An accept removes the first embryo from the backlog, and keeps the others in order. Every other
-/// file waits in as many places as before.
+/// file waits in as many backlog places as before.
 pub fn accept_takes_the_first_embryo()
     ensures { AcceptTakesTheFirstEmbryo }
 {}
@@ -57,7 +59,7 @@ pub fn accepted_number_is_the_embryo()
     ensures { AcceptedNumberIsTheEmbryo }
 {}
 
-/// An embryo of a listener that is reached is reached.
+/// An embryo of a listener that is reached is reached (net/unix/garbage.c).
 pub fn embryos_are_reached()
     ensures { EmbryosAreReached }
 {}

@@ -3,7 +3,7 @@ ghost use Rattle.af_laws.specs.Peeking.{PeekChangesNoQueue, PeekChangesNoCharge}
 ghost use Rattle.af_laws.specs.Peeking.{PeekChangesNoFlight, PeekSeesWhatIsReceived};
 ghost use Rattle.af_laws.specs.Peeking.{LimitClosesNothing};
 
-/// A peek leaves every queue as it is.
+/// A peek leaves every queue as it is, with all its files, whatever the answer.
 pub fn peek_changes_no_queue()
     ensures { PeekChangesNoQueue }
 {}
@@ -18,12 +18,13 @@ pub fn peek_changes_no_flight()
     ensures { PeekChangesNoFlight }
 {}
 
-/// A peek and then a receive, or a second peek, of as many bytes give the same bytes and files.
+/// After a peek, a receive or another peek gives what it would have given before: the same bytes
+/// and files.
 pub fn peek_sees_what_is_received()
     ensures { PeekSeesWhatIsReceived }
 {}
 
-/// A changed limit closes no descriptor of any process.
+/// A changed limit closes nothing: each descriptor refers to the same file, whatever the reply.
 pub fn limit_closes_nothing()
     ensures { LimitClosesNothing }
 {}

@@ -30,7 +30,8 @@ pub fn none_where_not_waiting()
     ensures { NoneWhereNotWaiting }
 {}
 
-/// The reference count is what tables, queues and backlogs have of the file.
+/// The reference count is what tables, queues and backlogs have of the file, each place counted
+/// once.
 pub fn references_add_up()
     ensures { ReferencesAddUp }
 {}
@@ -45,12 +46,13 @@ pub fn uninstall_counts()
     ensures { UninstallCounts }
 {}
 
-/// A dup2 moves one reference from the old file to the new one.
+/// A dup2 to an open descriptor lowers the count of the old file by one, raises that of the new one
+/// by one, and keeps all others (dup2(2)).
 pub fn replace_counts()
     ensures { ReplaceCounts }
 {}
 
-/// A child is as many references more to a file as its table has descriptors for it.
+/// A child is as many references more to a file as the table that it copies has descriptors for it.
 pub fn fork_counts()
     ensures { ForkCounts }
 {}
@@ -65,22 +67,26 @@ pub fn exit_keeps_charges()
     ensures { ExitKeepsCharges }
 {}
 
-/// A message that is sent counts each attached file once more, repeats included.
+/// A message that is sent is as many references more to a file, and as many more in flight, as it
+/// carries the file.
 pub fn send_counts()
     ensures { SendCounts }
 {}
 
-/// A message that is received whole gives back what it counted.
+/// A message that is received whole gives back as many references as it carried, before they are
+/// installed.
 pub fn receive_counts()
     ensures { ReceiveCounts }
 {}
 
-/// A message that is sent is charged to the user that it names, and to nobody else.
+/// A message that is sent is charged to the user that it names, a place for each file that it
+/// carries, and to nobody else.
 pub fn send_charges()
     ensures { SendCharges }
 {}
 
-/// A whole receive ends the message's charge to the user that it names.
+/// A whole receive ends the message's charge to the user that it names, whoever receives it, and
+/// keeps all other charges.
 pub fn receive_discharges()
     ensures { ReceiveDischarges }
 {}

@@ -1,19 +1,21 @@
 //! Laws of what files are ready for.
 ghost use Rattle.af_laws.specs.Polling.{ReadyIsWhatStepsFind, StepLeavesReady, PurgeLeavesReady};
 
-/// A socket's readiness is what steps find, for each process with a descriptor of it.
+/// In a sound world, what a socket is ready for is what steps find of each process that has it at a
+/// number: whether a receive of a byte, an accept and a send of a byte are refused, and whether the
+/// peer was freed.
 pub fn ready_is_what_steps_find()
     ensures { ReadyIsWhatStepsFind }
 {}
 
-/// A step changes what a file is ready for only where it touches the file or its peer, or where the
-/// peer is freed.
+/// A step leaves what a file is ready for, where it touches neither the file nor its peer, and the
+/// peer stays, whatever the answer.
 pub fn step_leaves_ready()
     ensures { StepLeavesReady }
 {}
 
-/// A slice or a pass changes it only where it empties the file or its peer, or where the peer is
-/// freed.
+/// A slice or a pass that empties some files keeps the readiness of each other file whose peer is
+/// not among them and stays.
 pub fn purge_leaves_ready()
     ensures { PurgeLeavesReady }
 {}

@@ -15,7 +15,7 @@ pub fn purges_in_any_order()
     ensures { PurgesInAnyOrder }
 {}
 
-/// A whole pass changes no table, and no queue or backlog of what is reached.
+/// A whole pass changes no table, and no queue or backlog of what is reached, whatever the answer.
 pub fn pass_spares_the_reached()
     ensures { PassSparesTheReached }
 {}
@@ -25,7 +25,8 @@ pub fn pass_leaves_no_garbage()
     ensures { PassLeavesNoGarbage }
 {}
 
-/// A whole pass that is done has released all that was garbage at its beginning.
+/// A whole pass that is done has released all that was garbage at its beginning: none of it is
+/// live.
 pub fn pass_releases_its_garbage()
     ensures { PassReleasesItsGarbage }
 {}
@@ -40,7 +41,8 @@ pub fn pass_has_one_outcome()
     ensures { PassHasOneOutcome }
 {}
 
-/// A begin, and slices with no steps between them, the last of them done, are a whole pass.
+/// A begin, and slices with no steps between them, the last of them done, are a whole pass, however
+/// they are cut: it may have the same reply, and lead to the same machine.
 pub fn slices_are_a_pass()
     ensures { SlicesAreAPass }
 {}
@@ -50,13 +52,13 @@ pub fn pass_is_one_slice()
     ensures { PassIsOneSlice }
 {}
 
-/// A slice changes no table, and no queue or backlog of what is reached, while no garbage of the
-/// begin is reached.
+/// While no garbage of the begin is reached, a slice changes no table, and no queue or backlog of
+/// what is reached, whatever the answer.
 pub fn slices_spare_the_reached()
     ensures { SlicesSpareTheReached }
 {}
 
-/// While a pass runs, no garbage of its begin is reached.
+/// While a pass runs, no garbage of its begin is reached, whatever processes do between its slices.
 pub fn begun_garbage_is_never_reached()
     ensures { BegunGarbageIsNeverReached }
 {}

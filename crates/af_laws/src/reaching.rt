@@ -11,12 +11,12 @@ pub fn places_keep_reached()
     ensures { PlacesKeepReached }
 {}
 
-/// An install at a free descriptor keeps files reachable.
+/// A reached file stays reached where a free descriptor is opened.
 pub fn install_keeps_reached()
     ensures { InstallKeepsReached }
 {}
 
-/// A send keeps files reachable.
+/// A reached file stays reached where a message is sent.
 pub fn send_keeps_reached()
     ensures { SendKeepsReached }
 {}
@@ -26,8 +26,8 @@ pub fn reached_is_held()
     ensures { ReachedIsHeld }
 {}
 
-/// Live files in no table that only they themselves hold are garbage, as a listener in the queue of
-/// its own embryo.
+/// Live files that no table holds, and that only they themselves hold, are garbage: a listener in
+/// the queue of its own embryo, and the embryo in its backlog (net/unix/garbage.c).
 pub fn groups_of_their_own_are_garbage()
     ensures { GroupsOfTheirOwnAreGarbage }
 {}
@@ -48,17 +48,17 @@ pub fn purging_keeps_reached()
     ensures { PurgingKeepsReached }
 {}
 
-/// A process that starts reaches nothing that was live and out of reach.
+/// A process that starts reaches nothing of what was live, but what was reached before.
 pub fn spawn_reaches_no_garbage()
     ensures { SpawnReachesNoGarbage }
 {}
 
-/// No step of a process reaches anything that was live and out of reach.
+/// No step of a process reaches any of what was live, but what was reached before.
 pub fn step_reaches_no_garbage()
     ensures { StepReachesNoGarbage }
 {}
 
-/// Garbage is unreachable after any event, whatever the reply.
+/// Garbage is out of reach after any event, whatever the answer.
 pub fn garbage_stays_out_of_reach()
     ensures { GarbageStaysOutOfReach }
 {}

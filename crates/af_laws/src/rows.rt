@@ -33,7 +33,7 @@ pub fn smallest_cycle()
     ensures { SmallestCycle }
 {}
 
-/// A whole pass after them counts one, frees it, and ends its charge.
+/// A whole pass after those of the smallest cycle counts one, frees it, and ends its charge.
 pub fn cycle_is_collected()
     ensures { CycleIsCollected }
 {}

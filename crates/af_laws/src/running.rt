@@ -4,8 +4,8 @@ ghost use Rattle.af_laws.specs.Running.{RefusedChangesNothing, RunsJoin};
 ghost use Rattle.af_laws.specs.Running.{FreshIsSound, EventsKeepSound, RunsAreSound};
 ghost use Rattle.af_laws.specs.Running.{RunsAreInTime};
 
-/// From every machine whose world is sound each event has a reply and leads somewhere, but for a
-/// slice whose budgets are spent.
+/// From every machine whose world is sound each event, but a slice whose budgets are spent, has a
+/// reply and leads somewhere.
 pub fn events_have_replies()
     ensures { EventsHaveReplies }
 {}
@@ -15,7 +15,7 @@ pub fn replies_determine()
     ensures { RepliesDetermine }
 {}
 
-/// A log of such events with their replies leads to one machine.
+/// A log of events that leave nothing to choose leads, with its replies, to one machine.
 pub fn log_determines()
     ensures { LogDetermines }
 {}
@@ -30,12 +30,12 @@ pub fn runs_join()
     ensures { RunsJoin }
 {}
 
-/// The empty world is sound.
+/// The empty world is sound: whole, within all limits, and settled.
 pub fn fresh_is_sound()
     ensures { FreshIsSound }
 {}
 
-/// Each event leaves a sound world sound.
+/// Each event leaves a sound world sound, whatever the answer.
 pub fn events_keep_sound()
     ensures { EventsKeepSound }
 {}

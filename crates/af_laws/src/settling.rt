@@ -29,12 +29,13 @@ pub fn settling_twice_is_once()
     ensures { SettlingTwiceIsOnce }
 {}
 
-/// Where some place holds each live file, nothing is freed.
+/// Where some place holds each live file, nothing is to be freed.
 pub fn held_world_is_settled()
     ensures { HeldWorldIsSettled }
 {}
 
-/// Files that hold one another are never freed by settling.
+/// Settling never frees files that hold one another: of any files of which each is held by one of
+/// them, none is unheld.
 pub fn cycles_stay()
     ensures { CyclesStay }
 {}

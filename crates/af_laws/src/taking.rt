@@ -4,12 +4,12 @@ ghost use Rattle.af_laws.specs.Taking.{StreamKeepsBytes, StreamKeepsFiles, Strea
 ghost use Rattle.af_laws.specs.Taking.{StreamStopsAtFiles, FilesComeWithFirstByte, NoFilesFromNone};
 ghost use Rattle.af_laws.specs.Taking.{ReceivesKeepBytes, ReceivesKeepFiles, OneByteAtATime};
 
-/// A packet loses no byte but those that it drops.
+/// A packet loses no byte but those that it drops, and leaves the messages behind it.
 pub fn packet_keeps_bytes()
     ensures { PacketKeepsBytes }
 {}
 
-/// A packet loses no file.
+/// A packet loses no file: what is not taken is left.
 pub fn packet_keeps_files()
     ensures { PacketKeepsFiles }
 {}
@@ -19,7 +19,7 @@ pub fn packet_tells_of_drops()
     ensures { PacketTellsOfDrops }
 {}
 
-/// A stream loses no byte.
+/// A stream loses no byte: what is not taken is left.
 pub fn stream_keeps_bytes()
     ensures { StreamKeepsBytes }
 {}
@@ -34,7 +34,7 @@ pub fn stream_takes_at_most()
     ensures { StreamTakesAtMost }
 {}
 
-/// A stream takes no byte past the first message with files.
+/// A receive from a stream takes no byte past the first message with files.
 pub fn stream_stops_at_files()
     ensures { StreamStopsAtFiles }
 {}
@@ -49,18 +49,19 @@ pub fn no_files_from_none()
     ensures { NoFilesFromNone }
 {}
 
-/// Receives from a stream, of any numbers of bytes, lose no byte and give none twice.
+/// Receives from a stream lose no byte and give none twice, however many bytes each asks for: what
+/// they took and what is left are what was there.
 pub fn receives_keep_bytes()
     ensures { ReceivesKeepBytes }
 {}
 
-/// Receives lose no file and give none twice, where each message has a byte.
+/// Receives of either type lose no file and give none twice, where each message has a byte.
 pub fn receives_keep_files()
     ensures { ReceivesKeepFiles }
 {}
 
-/// One byte at a time gives the same bytes and files as one receive, and leaves the same queue,
-/// where each message has a byte.
+/// If each message of a stream has a byte, one receive equals as many receives of one byte as it
+/// took bytes: they give the same bytes and files, and leave the same queue.
 pub fn one_byte_at_a_time()
     ensures { OneByteAtATime }
 {}

@@ -1,8 +1,8 @@
 //! Laws of the lists of freed files.
 ghost use Rattle.af_laws.specs.Telling.{PeriodsJoin};
 
-/// The files listed before the lists are emptied, and those listed after, are those of one longer
-/// period. So over a whole run each file is listed once, when it is freed.
+/// Two periods of a list, one after the other, join to one: each number that was live at the begin
+/// of the first, or was given out since, is live at the end of the second or was listed, once.
 pub fn periods_join()
     ensures { PeriodsJoin }
 {}
