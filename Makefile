@@ -35,7 +35,7 @@ INCLUDEDIR ?= $(PREFIX)/include
 MANDIR ?= $(PREFIX)/share/man
 
 # Stops with a line that says where to get it, where one of these programs is missing.
-need = @tools/need python3
+need = tools/need python3
 # The proved library where it is built, and else the one to try.
 at_hand = $(shell for it in $(LIBRARY) $(UNPROVED); do test -f $$it && echo $$it && break; done)
 # Runs a command in a crate's folder, and says on standard error how far the build is and about how long the rest takes.
@@ -48,19 +48,19 @@ try: $(TRIED)
 	$(TRIED) play $(SCRIPT)
 
 $(TRIED) $(UNPROVED): out/unproved/%: tools/try-build $(shell find crates/*/src -name "*.rt")
-	$(need) rt
+	@$(need) rt
 	tools/try-build $*
 
 # An empty script does nothing; asking for its run proves, builds and links the program.
 build:
-	$(need) rt
+	@$(need) rt
 	$(call in_crate,scmgc) rt run -- run < /dev/null
 
 run: build
 	$(PROGRAM) run < examples/cycle.script
 
 check:
-	$(need) rt
+	@$(need) rt
 	tests/events_agree.py
 	tests/calls_agree.py
 	tools/bindings --check
@@ -69,12 +69,12 @@ check:
 	tests/cases.py
 
 bindings:
-	$(need)
+	@$(need)
 	tools/bindings
 
 # Where the time went, crate by crate, stands in out/times.md after it.
 test:
-	$(need) rt
+	@$(need) rt
 	tools/gate-times --table out/times.md tools/gate
 
 walks: build
@@ -83,7 +83,7 @@ walks: build
 
 # The tests stay in the folders out/ of their crates.
 stress: build
-	$(need) cc
+	@$(need) cc
 	cd crates/af_tests && rt test
 	tools/stress
 
@@ -94,13 +94,13 @@ try-lib: $(UNPROVED)
 	@echo '$(UNPROVED) is NOT proved: make lib proves and builds $(LIBRARY)'
 
 lib:
-	$(need) rt $(firstword $(AR))
+	@$(need) rt $(firstword $(AR))
 	$(call in_crate,scm_c) sh -c "rt check --only '' && ../../tools/embed --build"
 	@$(MAKE) --no-print-directory archive
 
 # The library and the few heap functions that it stands on, as one archive.
 archive:
-	$(need) rt $(firstword $(AR))
+	@$(need) rt $(firstword $(AR))
 	@test -f $(STATIC) || { echo 'make archive: $(STATIC) is not built: run make lib' >&2; exit 2; }
 	mkdir -p out
 	printf '%s\n' 'create $(LIBRARY).new' 'addlib $(STATIC)' 'addlib $(KIT)c/liblibc_c.a' save end | $(AR) -M
@@ -110,23 +110,23 @@ embed: lib
 	tests/embedding.sh $(LIBRARY)
 
 clients: unixbox
-	$(need) python3
+	@$(need) python3
 	tools/clients
 
 # Stops where no library is built.
-need_library = @test -n '$(at_hand)' || \
+need_library = test -n '$(at_hand)' || \
 	{ echo 'make $@: no library is built: run make lib, or make try-lib for an unproved one' >&2; exit 2; }
 
 bench-c:
-	$(need) $(firstword $(CC))
-	$(need_library)
+	@$(need) $(firstword $(CC))
+	@$(need_library)
 	$(CC) -O2 -Iinclude examples/c/bench.c $(at_hand) -pthread -o out/bench_c
 	@echo 'out/bench_c is built over $(at_hand)'
 	out/bench_c
 
 unixbox:
-	$(need) $(firstword $(CC))
-	$(need_library)
+	@$(need) $(firstword $(CC))
+	@$(need_library)
 	$(CC) -std=c11 -O2 -Iinclude examples/unixbox/*.c $(at_hand) -o out/unixbox -lpthread
 	@echo 'out/unixbox is built over $(at_hand)'
 
