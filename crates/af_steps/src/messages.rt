@@ -168,13 +168,12 @@ impl Engine {
         Ok(count)
     }
 
-    /// Receives at most this many bytes and descriptors (recvmsg(2)). A packet's bytes beyond
-    /// `max_bytes` are dropped (recvmsg(2), MSG_TRUNC); a stream's wait for the next receive.
-    /// Descriptors beyond `max_fds` or the free numbers are closed (unix(7), SCM_RIGHTS;
+    /// Receives at most `max_bytes` bytes and `max_fds` descriptors (recvmsg(2)). A packet's bytes
+    /// beyond `max_bytes` are dropped (recvmsg(2), MSG_TRUNC); a stream's wait for the next
+    /// receive. Descriptors beyond `max_fds` or the free numbers are closed (unix(7), SCM_RIGHTS;
     /// MSG_CTRUNC). Refused, in this order: ESRCH, EBADF, ENOTSOCK, EINVAL (`max_bytes` is not 1 to
     /// 65,536), ENOTCONN, EAGAIN, ENOMEM.
-    // The compiler zeroes room for its answer at the entry of each function into which it is
-    // inlined, so it is kept apart.
+    // Kept apart: DECISIONS.md, "Answers are zeroed".
     #[inline(never)]
     pub fn recv(
         &mut self,
@@ -205,8 +204,7 @@ impl Engine {
     /// files of installed descriptors are then in a table and in the queue, other files in the
     /// queue alone. A second peek sees the same. Refused, in this order: ESRCH, EBADF, ENOTSOCK,
     /// EINVAL (`max_bytes` is not 1 to 65,536), ENOTCONN, EAGAIN, ENOMEM.
-    // The compiler zeroes room for its answer at the entry of each function into which it is
-    // inlined, so it is kept apart.
+    // Kept apart: DECISIONS.md, "Answers are zeroed".
     #[inline(never)]
     pub fn peek(
         &mut self,

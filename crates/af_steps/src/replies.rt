@@ -1,5 +1,5 @@
-//! Events that answer a number or a message, each with its reply. Each is a function of its own:
-//! the compiler zeroes a function's answers at its start, also those of events that it does not do.
+//! Events that answer a number or a message, each with its reply. Each is a function of its own
+//! (DECISIONS.md, "Answers are zeroed").
 ghost use Rattle.af_base.specs.declared.events.Step.TheVariants.{Accept, Dup, Dup2, Fork, Open};
 ghost use Rattle.af_base.specs.declared.events.Step.TheVariants.{Pair, Peek, Recv, Send, Socket};
 ghost use Rattle.af_base.specs.Run.{Step};
