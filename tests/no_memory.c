@@ -14,8 +14,11 @@ void *__wrap_realloc(void *old, size_t size);
 
 /* How many allocations there may be before one fails. Below 0 none does. */
 static long left = -1;
+/* How many were asked for. */
+static long asked;
 
 static bool fails(void) {
+    asked++;
     return left >= 0 && left-- == 0;
 }
 
@@ -167,18 +170,48 @@ static void life(void) {
     FREE(jw_released(&engine, inos, 16), 0);
 }
 
-int main(void) {
+/* Two sockets are in each other's queues, one beside a plain file. The exit of their process and
+ * the pass that frees them ask for no memory at all. */
+static void down_without_memory(void) {
+    struct jw_pair pair;
+    struct jw_finished finished = {0, 0};
+    const uint32_t first[] = {2, 4}, second[] = {0};
+    uint64_t live = 1;
+
+    DONE(jw_spawn(&engine, 1000, 16, false), 1);
+    DONE(jw_pair(&engine, 1, JW_SEQPACKET, &pair), 0);
+    DONE(jw_pair(&engine, 1, JW_SEQPACKET, &pair), 0);
+    DONE(jw_open(&engine, 1), 4);
+    DONE(jw_send(&engine, 1, 1, "a", 1, first, 2), 1);
+    DONE(jw_send(&engine, 1, 3, "b", 1, second, 1), 1);
+    long before = asked;
+    FREE(jw_exit(&engine, 1), 0);
+    FREE(jw_pass(&engine, &finished), 0);
+    FREE(finished.pass == 1 && finished.reclaimed == 2, true);
+    FREE(jw_live(&engine, &live) == 0 && live == 0, true);
+    FREE(asked, before);
+}
+
+/* Runs a trial again and again, each time with another allocation refused, up to a run that is
+ * refused none. Returns whether more than ten were refused. */
+static bool with_each_refused(void (*trial)(void)) {
+    refusals = 0;
     for (long nth = 0; nth < 200; nth++) {
         left = nth;
         if (jw_engine_new(&engine) == -JW_ENOMEM) {
             refusals++;
             if (engine.at != NULL || jw_engine_new(&engine) != 0)
-                return 1;
+                return false;
         }
-        life();
+        trial();
         jw_engine_free(&engine);
         if (left >= 0)
             break;
     }
-    return failures == 0 && left >= 0 && refusals > 10 ? 0 : 1;
+    return left >= 0 && refusals > 10;
+}
+
+int main(void) {
+    bool is_refused = with_each_refused(life) && with_each_refused(down_without_memory);
+    return failures == 0 && is_refused ? 0 : 1;
 }
