@@ -15,7 +15,7 @@ import subprocess
 import sys
 import tempfile
 from pathlib import Path
-from typing import Iterator, List, NamedTuple, Tuple
+from typing import Iterable, Iterator, List, NamedTuple, Tuple
 
 ROOT = Path(os.path.realpath(__file__)).parent.parent
 # How many bytes the longest line has, without its end.
@@ -380,6 +380,22 @@ def refuses_a_long_line_at_once(program: Program) -> Check:
 
 # ---- Scripts that fill all that there is ----
 
+
+def opens(pids: range, files: int) -> Tuple[str, str]:
+    """Lines by which these processes start and open so many plain files each, and their replies."""
+    lines = "".join(f"spawn 1000 1024\n{files * f'{pid} open{chr(10)}'}" for pid in pids)
+    numbers = "".join(f"fd {fd}\n" for fd in range(files))
+    return lines, "".join(f"pid {pid}\n{numbers}" for pid in pids)
+
+
+def files_run_out(program: Program) -> Iterator[Check]:
+    """64 processes open 1,024 plain files each, as many as may be live. Another one of this limit can open none."""
+    lines, replies = opens(range(1, 65), 1_024)
+    lines += "64 open\nspawn 1000 1024\n65 open\ncheck\n"
+    replies += "EMFILE\npid 65\nENFILE\ncheck ok live 65536 garbage 0\n"
+    yield program.check("files_run_out", "run", lines.encode(), Answer(0, replies.encode()))
+
+
 # 64 queues full of messages with 253 descriptors each, and one with 48 of them and 144 more descriptors: 1,048,576
 # descriptors in flight. A child has each pair. The last queue is full too, of messages without descriptors, and a
 # process without privilege sends.
@@ -472,40 +488,6 @@ user 0 inflight 0
 check ok live 0 garbage 0
 """
 
-# 64 processes open 1,024 plain files each: as many as may be live. A further process has none, and can open none.
-FULL_TABLES = (
-    "".join(f"spawn 1000 1024\n{1_024 * f'{pid} open{chr(10)}'}" for pid in range(1, 65))
-    + "64 open\nspawn 1000 1024\n65 open\ncheck\n"
-)
-TABLES = """fd 1023
-EMFILE
-pid 65
-ENFILE
-check ok live 65536 garbage 0
-"""
-
-# A file is opened and closed 100,000 times, and then another one, which has the next inode number.
-MANY_LIVES = "spawn 1000 16\n" + 100_000 * "1 open\n1 close 0\n" + "1 open\ntable\n"
-LIVES = """fd 0
-ok
-fd 0
-   inode    refs     fly kind      state     msgs wait     peer name
-  100001       1       0 plain     -            0    0        0 -
-"""
-
-# Four of five files come and go by turns, 100,000 of them.
-FEW_AT_ONCE = (
-    "spawn 1000 16\n" + 5 * "1 open\n" + 25_000 * "".join(f"1 close {fd}\n1 open\n" for fd in range(4)) + "table\n"
-)
-AT_ONCE = """fd 3
-   inode    refs     fly kind      state     msgs wait     peer name
-       5       1       0 plain     -            0    0        0 -
-  100002       1       0 plain     -            0    0        0 -
-  100003       1       0 plain     -            0    0        0 -
-  100004       1       0 plain     -            0    0        0 -
-  100005       1       0 plain     -            0    0        0 -
-"""
-
 # As many processes as may be.
 ALL_PROCESSES = 1_024 * "spawn 1000 0\n" + "spawn 1000 0\nspawn 1000 1025\n1 fork\n1 exit\n2 fork\n"
 PROCESSES = """pid 1024
@@ -519,7 +501,7 @@ pid 1025
 # As many files as may be live, one of them in flight. A pass looks at each, and three times at most: it continues after
 # a slice of as many units as there are files, and ends with the third such slice.
 FULL_PASS = (
-    "".join(f"spawn 1000 1024\n{1_024 * f'{pid} open{chr(10)}'}" for pid in range(1, 64))
+    opens(range(1, 64), 1_024)[0]
     + f"spawn 1000 1024\n64 pair stream\n{1_022 * f'64 open{chr(10)}'}64 send 0 m 0\n64 open\ncheck\nbegin\n"
     + 3 * "slice 65536\n"
     + "slice 1\n"
@@ -539,14 +521,22 @@ LONG_SCRIPTS = [
     ("a full listener", FULL_LISTENER, LISTENER),
     ("a full machine", FULL_MACHINE, MACHINE),
     ("a long chain of streams", LONG_CHAIN, CHAIN),
-    ("full tables", FULL_TABLES, TABLES),
-    ("many lives", MANY_LIVES, LIVES),
-    ("a few files at once", FEW_AT_ONCE, AT_ONCE),
     ("all processes", ALL_PROCESSES, PROCESSES),
     ("a pass over all files", FULL_PASS, PASS),
 ]
-# These need little memory, since a file that is gone leaves nothing behind: a row of 16 bytes for each would take more.
-IN_LITTLE_MEMORY = ["many lives", "a few files at once"]
+
+def long_scripts(program: Program) -> Iterator[Check]:
+    """Each is run to its end, and its last replies are these."""
+    for name, script, replies in LONG_SCRIPTS:
+        found = program.run("run", script.encode())
+        last = Answer(found.status, found.output[-len(replies) :], found.error)
+        yield name, last, last == Answer(0, replies.encode())
+
+
+# ---- Files that come and go, and units of a pass ----
+
+HEADER = "   inode    refs     fly kind      state     msgs wait     peer name\n"
+PLAIN_ROW = "{:8}       1       0 plain     -            0    0        0 -\n"
 
 
 def bound_memory():
@@ -554,16 +544,56 @@ def bound_memory():
     resource.setrlimit(resource.RLIMIT_DATA, (1 << 20, 1 << 20))
 
 
-def long_scripts(program: Program) -> Iterator[Check]:
-    """Each is run to its end, and its last replies are these."""
-    for name, script, replies in LONG_SCRIPTS:
-        how = {"preexec_fn": bound_memory} if name in IN_LITTLE_MEMORY else {}
-        found = program.run("run", script.encode(), **how)
-        last = Answer(found.status, found.output[-len(replies) :], found.error)
-        yield name, last, last == Answer(0, replies.encode())
+def in_little_memory(program: Program, name: str, lines: str, replies: str, files: Iterable[int]) -> Check:
+    """The plain files with these inode numbers are left, and replies are these: in so little memory that none is left
+    for a row of 16 bytes for each file that was."""
+    script = f"spawn 1000 16\n{lines}table\n".encode()
+    found = program.run("run", script, preexec_fn=bound_memory)
+    wanted = f"pid 1\n{replies}{HEADER}{''.join(map(PLAIN_ROW.format, files))}"
+    return name, found, found == Answer(0, wanted.encode())
 
 
-PARTS = [command_lines, races, benchmarks, lines, cut_scripts, streams, long_scripts]
+def many_lives(program: Program) -> Iterator[Check]:
+    """A file is opened and closed 100,000 times, and then another one: it has the next inode number."""
+    lines, replies = 100_000 * "1 open\n1 close 0\n", 100_000 * "fd 0\nok\n"
+    yield in_little_memory(program, "many_lives", lines + "1 open\n", replies + "fd 0\n", [100_001])
+
+
+def a_few_at_once(program: Program) -> Iterator[Check]:
+    """Four of five files come and go by turns, 100,000 of them."""
+    lines = 5 * "1 open\n" + 25_000 * "".join(f"1 close {fd}\n1 open\n" for fd in range(4))
+    replies = "".join(f"fd {fd}\n" for fd in range(5)) + 25_000 * "".join(f"ok\nfd {fd}\n" for fd in range(4))
+    yield in_little_memory(program, "a_few_at_once", lines, replies, [5, *range(100_002, 100_006)])
+
+
+# Behind plain files are a socket that is garbage, in its own queue, and its peer. A pass begins.
+PLAIN_FILES = 20_000
+GARBAGE_BEHIND = (
+    opens(range(1, 21), 1_000)[0] + "20 pair seqpacket\n20 send 1001 x 1000\n20 close 1000\nbegin\n"
+)
+
+
+def units_are_counted(program: Program) -> Iterator[Check]:
+    """A pass visits, scans and sweeps each file before it ends, and looks at one file in each unit.
+
+    So a begin that marks files, and a unit that looks at more than one, leave too few slices that are answered
+    'working'; a pass that looks at a file more than three times has too many.
+    """
+    for budget in (1, 977):
+        least, most = (3 * files // budget for files in (PLAIN_FILES, PLAIN_FILES + 2))
+        found = program.run("run", (GARBAGE_BEHIND + (most + 1) * f"slice {budget}\n").encode())
+        _, _, slices = found.output.partition(b"started 1\n")
+        working = slices.count(b"working\n")
+        ends = slices.startswith(working * b"working\n" + b"pass 1 reclaimed 1\n")
+        is_right = (found.status, found.error, ends) == (0, b"", True) and least <= working <= most
+        last = found._replace(output=b"%d slices of %d" % (working, budget))
+        yield "units_are_counted", last, is_right
+
+
+PARTS = [
+    *(command_lines, races, benchmarks, lines, cut_scripts, streams, long_scripts),
+    *(files_run_out, many_lives, a_few_at_once, units_are_counted),
+]
 
 
 def main() -> int:
