@@ -6,6 +6,7 @@
 # make bindings  write the header, its manual page and the bindings for Rust, after a change of a call, error or limit
 # make test      the gate: proofs from nothing, all tests, wrong bodies: half an hour to an hour on four cores
 # make walks     random scripts and edited lines by the proved program, compared with an engine and a reader in Python
+# make kernel-walks  as root: SEEDS (24) random scripts by real sockets of this Linux, compared with the plain engine
 # make stress    each request for memory refused in turn, and the largest worlds, by the proved program and tests
 # make bench     nanoseconds for each event by the proved program, over named workloads, and calls a second from threads
 # make try-lib   build out/unproved/libjaywardrobe.a, for C and Rust, without proofs, in a minute or two
@@ -28,6 +29,7 @@ UNPROVED := out/unproved/libjaywardrobe.a
 # The kit's folder: it has the few heap functions over malloc that the library stands on.
 KIT = $(dir $(firstword $(shell rt doc 2> /dev/null)))
 SCRIPT ?= examples/cycle.script
+SEEDS ?= 24
 PREFIX ?= /usr/local
 BINDIR ?= $(PREFIX)/bin
 LIBDIR ?= $(PREFIX)/lib
@@ -80,6 +82,10 @@ test:
 walks: build
 	tools/walks
 	tools/plays
+
+kernel-walks:
+	$(need)
+	tests/comparison/kernel_walks.py --seeds $(SEEDS)
 
 # The tests stay in the folders out/ of their crates.
 stress: build
@@ -161,5 +167,5 @@ clean:
 	rm -rf out crates/*/out
 
 .DEFAULT_GOAL := help
-.PHONY: help try build run check bindings test walks stress bench try-lib lib archive embed clients bench-c unixbox \
+.PHONY: help try build run check bindings test walks kernel-walks stress bench try-lib lib archive embed clients bench-c unixbox \
 	install install-program install-library uninstall clean
