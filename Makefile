@@ -84,7 +84,7 @@ walks: build
 	tools/plays
 
 kernel-walks:
-	$(need)
+	@$(need)
 	tests/comparison/kernel_walks.py --seeds $(SEEDS)
 
 # The tests stay in the folders out/ of their crates.
@@ -133,7 +133,7 @@ bench-c:
 unixbox:
 	@$(need) $(firstword $(CC))
 	@$(need_library)
-	$(CC) -std=c11 -O2 -Iinclude examples/unixbox/*.c $(at_hand) -o out/unixbox -lpthread
+	$(CC) -std=c11 -O2 -Iinclude unixbox/*.c $(at_hand) -o out/unixbox -lpthread
 	@echo 'out/unixbox is built over $(at_hand)'
 
 # It proves and builds nothing, so that root may run it.

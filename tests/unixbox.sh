@@ -2,11 +2,11 @@
 # Whether programs see under unixbox what they see natively.
 # usage: tests/unixbox.sh out/libjaywardrobe.a
 #
-# Builds examples/unixbox, and runs the programs of tests/unixbox natively and under it: by slices of
-# one file and by whole passes, with all places recounted and checked after each call. The outputs
-# are the same, and unixbox finds nothing wrong. With the collector off, the check of a cycle fails.
-# All of it is done again with unixbox under the sanitizers. What cannot be run here is left out,
-# with a line that says so. The first that fails ends the script.
+# Builds unixbox, and runs the programs of tests/unixbox natively and under it: by slices of one file
+# and by whole passes, with all places recounted and checked after each call. The outputs are the
+# same, and unixbox finds nothing wrong. With the collector off, the check of a cycle fails. All of
+# it is done again with unixbox under the sanitizers. What cannot be run here is left out, with a
+# line that says so. The first that fails ends the script.
 set -eu
 if [ $# -ne 1 ] || [ ! -f "$1" ]; then
     echo "usage: tests/unixbox.sh out/libjaywardrobe.a (make lib builds it)" >&2
@@ -78,7 +78,7 @@ if ! $user "$room/notification" 2> "$room/why"; then
     echo "unixbox: no seccomp notification ($(cat "$room/why")), so nothing was run under it"
     exit 0
 fi
-build="$cc $checks -Iinclude examples/unixbox/*.c $library -lpthread"
+build="$cc $checks -Iinclude unixbox/*.c $library -lpthread"
 $build -o "$room/unixbox"
 plays "$room/unixbox" ""
 recounts "$room/unixbox"
