@@ -57,12 +57,13 @@ recounts() {
 
 # Runs the programs under a build of unixbox.
 plays() {
-    for name in descriptors arguments senders; do
+    for name in descriptors arguments senders children; do
         same "$1" "$user" "$room/$name"
     done
-    for name in waits processes; do
+    for name in waits processes children; do
         same "$1" "" "$room/$name"
     done
+    (ulimit -n 256 && same "$1" "$user" "$room/children" full)
     same "$1" "" python3 tests/unixbox/descriptors.py
     if timeout 60 "$1" --gc=none -- "$room/descriptors" cycle > "$room/layer" 2> "$room/said"; then
         fails "a cycle is freed with --gc=none"
@@ -71,7 +72,7 @@ plays() {
     echo "unixbox: the programs passed$2"
 }
 
-for name in notification descriptors arguments senders waits processes cost; do
+for name in notification descriptors arguments senders waits processes children cost; do
     $cc $checks -pedantic "tests/unixbox/$name.c" -o "$room/$name" -lpthread
 done
 if ! $user "$room/notification" 2> "$room/why"; then

@@ -97,10 +97,17 @@ static void answer(struct call *call, long result) {
     free(call);
 }
 
+/* Says at the first call of a process that the layer does not know that such calls fail. */
+static void report_stranger(pid_t tid) {
+    if (counts.strangers++ == 0)
+        fprintf(stderr, "unixbox: process %d is not known: its calls fail with EPERM\n", tid);
+}
+
 /* Serves a call, and answers it or lets it wait. */
 static void run(struct call *call) {
     struct process *process = call->process;
     long result = process != NULL ? KERNEL_DOES_IT : -EPERM;
+    if (process == NULL && is_pending(call)) report_stranger(call->tid);
     if (process != NULL && is_pending(call) && !process->is_over) {
         if (process->closer == call->tid) process->closer = 0; /* It has closed. */
         if (process->has_changed) sync_table(process);

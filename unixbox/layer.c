@@ -119,8 +119,9 @@ void conclude(void) {
     jw_live(&engine, &live);
     fprintf(stderr, "unixbox: %lu calls, %lu layer calls, %lu passes, %lu sockets reclaimed\n"
             "unixbox: %lu other numbers, %lu wrong counts, %lu failed checks, %lu lost messages, "
-            "%lu files left\n", counts.calls, counts.steps, counts.passes, counts.reclaimed,
-            counts.other_numbers, counts.wrong_counts, counts.failed_checks, counts.lost, live);
+            "%lu calls of strangers, %lu files left\n", counts.calls, counts.steps, counts.passes,
+            counts.reclaimed, counts.other_numbers, counts.wrong_counts, counts.failed_checks,
+            counts.lost, counts.strangers, live);
     if (counts.reclaimed > 0)
         fprintf(stderr, "unixbox: leaked in cycles, by who sent it last (0: nobody)\n"
                 "    pid program          sockets  plain files\n");

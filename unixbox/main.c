@@ -122,7 +122,7 @@ int main(int argc, char **argv) {
     if (options.script != NULL) fputs("version 2\n", options.script);
     long pid = record(0, jw_spawn(&engine, geteuid(), JW_MAX_NOFILE, is_root),
                       is_root ? "spawn %u %u priv" : "spawn %u %u", geteuid(), JW_MAX_NOFILE);
-    add_process((uint32_t)pid, getpid(), getpid());
+    if (pid < 0 || add_process((uint32_t)pid, getpid()) < 0) err(FAILED, "the start");
     for (int i = 0; i < THREADS; i++)
         if (pthread_create(&threads[i], NULL, serve_calls, NULL) != 0) err(FAILED, "a thread");
     kill(program, SIGCONT);

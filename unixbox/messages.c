@@ -101,7 +101,8 @@ static long copy_files(struct process *process) {
     for (size_t i = 0; i < message.fd_count; i++) {
         struct file *file = sync_file(process, message.fds[i]);
         if (file == NULL || file->host >= 0) continue; /* The layer refuses what is not open. */
-        file->host = (int)syscall(SYS_pidfd_getfd, process->pidfd, message.fds[i], 0);
+        int copy = (int)syscall(SYS_pidfd_getfd, process->pidfd, message.fds[i], 0);
+        file->host = keep_back(copy, KEPT_FOR_PROCESSES);
         if (file->host < 0) return errno == EMFILE ? -ENFILE : -errno;
     }
     return 0;

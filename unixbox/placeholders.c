@@ -11,6 +11,15 @@ void *copy_of(const void *value, size_t size) {
     return memcpy(copy, value, size);
 }
 
+/* Returns a new descriptor of the supervisor, or closes it where fewer than `count` would be left for
+ * other uses. Then the error is EMFILE. */
+int keep_back(int host, int count) {
+    if (host < 0 || host < sysconf(_SC_OPEN_MAX) - count) return host;
+    close(host);
+    errno = EMFILE;
+    return -1;
+}
+
 struct jw_file state_of(uint64_t ino) {
     struct jw_file state;
     jw_file(&engine, ino, &state);

@@ -3,72 +3,93 @@
 #include <linux/sched.h>
 #include <sys/epoll.h>
 
+enum { MOST_TEXT = 1 << 20 }; /* A status with 65,536 groups has less. */
+
 struct process_list processes = LIST_HEAD_INITIALIZER(processes);
 
-/* Reads a small file on a thread as a string, which is empty where there is none. */
-static void read_text(pid_t tid, const char *name, char *text, size_t room) {
-    snprintf(text, room, "/proc/%d/task/%d/%s", tid, tid, name);
-    int file = open(text, O_RDONLY | O_CLOEXEC);
+/* Reads a file on a thread as a string, which is empty where there is none. The next call of this
+ * writes over it. */
+const char *read_all(pid_t tid, const char *name) {
+    static char text[MOST_TEXT];
+    char path[64];
+    snprintf(path, sizeof path, "/proc/%d/task/%d/%s", tid, tid, name);
+    int file = open(path, O_RDONLY | O_CLOEXEC);
     size_t length = 0;
-    for (ssize_t part; (part = read(file, text + length, room - 1 - length)) > 0;)
+    for (ssize_t part; (part = read(file, text + length, sizeof text - 1 - length)) > 0;)
         length += (size_t)part;
     text[length] = '\0';
     close(file);
+    return text;
+}
+
+/* Returns what stands behind this name at the begin of a line. */
+static const char *field(const char *text, const char *name) {
+    size_t length = strlen(name);
+    for (const char *at = text; (at = strchr(at, '\n')) != NULL;)
+        if (strncmp(++at, name, length) == 0 && at[length] == ':') return at + length + 1;
+    return "";
+}
+
+/* Reads the numbers behind a name in /proc/PID/status. Returns how many there are. */
+static size_t read_numbers(const char *text, const char *name, uint32_t *out, size_t most) {
+    const char *at = field(text, name);
+    size_t count = 0;
+    for (char *end; count < most && *at != '\n'; at = end, count++) {
+        out[count] = (uint32_t)strtoul(at, &end, 10);
+        if (end == at) break;
+    }
+    return count;
+}
+
+static uint64_t read_mask(const char *text, const char *name) {
+    return strtoul(field(text, name), NULL, 16);
 }
 
 /* Returns whether a signal waits for the thread of this status. One that is sent to a process goes
  * to its first thread, unless that blocks it or is over. */
 static bool has_signal(const char *status, pid_t tid, pid_t tgid) {
-    char text[4096];
-    const char *at = strstr(status, "\nSigPnd:"), *first;
-    uint64_t own = 0, shared = 0, blocked = 0, ignored = 0, left = UINT64_MAX;
-    if (at == NULL || sscanf(at, " SigPnd: %lx ShdPnd: %lx SigBlk: %lx SigIgn: %lx", &own, &shared,
-                             &blocked, &ignored) < 4)
-        return false;
-    shared &= ~blocked & ~ignored;
+    uint64_t taken = read_mask(status, "SigBlk") | read_mask(status, "SigIgn");
+    uint64_t own = read_mask(status, "SigPnd") & ~taken;
+    uint64_t shared = read_mask(status, "ShdPnd") & ~taken;
     if (tid != tgid && shared != 0) {
-        read_text(tgid, "status", text, sizeof text);
-        if (strstr(text, "\nState:\tZ") == NULL && (first = strstr(text, "\nSigBlk:")) != NULL)
-            sscanf(first, " SigBlk: %lx", &left);
+        const char *first = read_all(tgid, "status");
+        bool is_over = field(first, "State")[1] == 'Z' || first[0] == '\0';
+        if (!is_over) shared &= read_mask(first, "SigBlk");
     }
-    return ((own & ~blocked & ~ignored) | (shared & left)) != 0;
+    return (own | shared) != 0;
 }
 
 /* Reads what a thread and its process are. Returns false where it is over. */
 bool read_status(pid_t tid, struct status *out) {
-    char text[4096], state;
-    read_text(tid, "status", text, sizeof text);
-    const char *rest = strstr(text, "\nUmask:"), *users = strstr(text, "\nUid:");
-    if (rest == NULL || users == NULL ||
-        sscanf(rest, " Umask: %o State: %c%*[^\n] Tgid: %d", &out->umask, &state,
-               &out->user.pid) < 3 || state == 'Z' || state == 'X')
-        return false;
+    const char *text = read_all(tid, "status");
+    const char state = field(text, "State")[0] == '\t' ? field(text, "State")[1] : 'X';
+    uint32_t tgid = 0, users[2] = {0}, groups[2] = {0}; /* Real and effective. */
+    if (state == 'Z' || state == 'X' || read_numbers(text, "Tgid", &tgid, 1) == 0) return false;
     out->name[0] = '\0'; /* A name may be empty. */
     sscanf(text, "Name:\t%15[^\n]", out->name);
-    sscanf(users, " Uid: %*u %u %*u %*u Gid: %*u %u", &out->user.uid, &out->user.gid);
-    out->is_signalled = has_signal(text, tid, out->user.pid);
+    out->umask = (mode_t)strtoul(field(text, "Umask"), NULL, 8);
+    read_numbers(text, "Uid", users, 2);
+    read_numbers(text, "Gid", groups, 2);
+    out->user = (struct ucred){(pid_t)tgid, users[1], groups[1]};
+    out->is_signalled = has_signal(text, tid, (pid_t)tgid);
     return true;
 }
 
-static struct process *process_by(pid_t tgid) {
+struct process *process_by(pid_t tgid) {
     struct process *it;
     LIST_FOREACH(it, &processes, entries)
         if (it->tgid == tgid) break;
     return it;
 }
 
-/* Adds a process of the layer, which is not bound yet. */
-void add_process(uint32_t pid, pid_t parent, pid_t forker) {
-    struct process value = {.pid = pid, .parent = parent, .forker = forker, .pidfd = -1,
-                            .has_changed = true}, *process = copy_of(&value, sizeof value);
-    LIST_INSERT_HEAD(&processes, process, entries);
-}
-
 /* Binds it to a process of the host. Where that is over, it exits. */
-static void bind_process(struct process *process, pid_t tgid) {
+void bind_process(struct process *process, pid_t tgid) {
     struct epoll_event event = {.events = EPOLLIN, .data.ptr = process};
     char path[64];
     snprintf(path, sizeof path, "/proc/%d/fd", tgid);
+    close(process->pidfd);
+    close(process->spare);
+    process->spare = -1;
     process->tgid = tgid;
     process->table = opendir(path);
     process->pidfd = (int)syscall(SYS_pidfd_open, tgid, 0);
@@ -86,6 +107,7 @@ void forget_process(struct process *process) {
     LIST_REMOVE(process, entries);
     wake(EVERYONE); /* Its calls end. */
     close(process->pidfd);
+    if (process->spare >= 0) close(process->spare);
     if (process->table != NULL) closedir(process->table);
     free(process);
 }
@@ -99,34 +121,6 @@ bool forget_ended(void) {
         settle(false);
     }
     return true;
-}
-
-/* Returns the last child of this thread that no process is bound to, or 0. */
-static pid_t unbound_child(pid_t tid) {
-    static char text[1 << 16];
-    struct status status;
-    read_text(tid, "children", text, sizeof text);
-    for (char *end; (end = strrchr(text, ' ')) != NULL;) { /* Each number has one behind it. */
-        *end = '\0';
-        const char *last = strrchr(text, ' ');
-        pid_t pid = atoi(last != NULL ? last : text);
-        if (process_by(pid) == NULL && read_status(pid, &status)) return pid;
-    }
-    return 0;
-}
-
-/* Binds children that are there. The others go where their fork(2) has failed: it is over. */
-static void bind_children(pid_t caller) {
-    for (struct process *it = LIST_FIRST(&processes), *next; it != NULL; it = next) {
-        next = LIST_NEXT(it, entries);
-        if (it->tgid != 0) continue;
-        bool is_orphan = process_by(it->parent) == NULL; /* It is adopted by this process. */
-        pid_t pid = unbound_child(is_orphan ? getpid() : it->forker);
-        if (pid > 0)
-            bind_process(it, pid);
-        else if (it->forker == caller || is_orphan)
-            forget_process(it);
-    }
 }
 
 /* Returns the process of a thread, or NULL where it is over. */
@@ -148,8 +142,8 @@ long serve_fork(struct call *call) {
     sync_table(call->process);
     long pid = record(call->pid, jw_fork(&engine, call->pid), "fork");
     if (pid < 0) return pid;
-    add_process((uint32_t)pid, call->process->tgid, call->tid);
-    return KERNEL_DOES_IT;
+    long result = add_process((uint32_t)pid, call->tid);
+    return result < 0 ? result : KERNEL_DOES_IT;
 }
 
 /* Threads share their table for good. */

@@ -13,6 +13,19 @@ static void size_buffer(int host) {
     setsockopt(host, SOL_SOCKET, SO_SNDBUF, &bytes, sizeof bytes);
 }
 
+/* Opens the placeholders of a socket or a pair. Of the supervisor's descriptors some are kept back:
+ * without them, the error is ENFILE. */
+static long open_placeholders(const struct call *call, bool is_pair, int *hosts) {
+    int flags = (int)call->args[1] | SOCK_CLOEXEC;
+    hosts[0] = hosts[1] = -1;
+    if (options.networks) setns(call->process->pidfd, CLONE_NEWNET); /* To be counted there. */
+    int result = is_pair ? socketpair(AF_UNIX, flags, 0, hosts)
+                         : (hosts[0] = socket(AF_UNIX, flags, 0));
+    if (result >= 0 && keep_back(is_pair ? hosts[1] : hosts[0], KEPT_FOR_PROCESSES) >= 0) return 0;
+    if (is_pair && result >= 0) close(hosts[0]);
+    return errno == EMFILE ? -ENFILE : -errno;
+}
+
 long serve_socket(struct call *call) {
     int flags = (int)call->args[1], type = flags & 0xf, hosts[2];
     bool is_pair = call->number == SYS_socketpair, is_stream = type == SOCK_STREAM;
@@ -22,10 +35,8 @@ long serve_socket(struct call *call) {
     bool is_served = is_stream || type == SOCK_SEQPACKET ||
                      (type == SOCK_DGRAM && is_pair && options.datagrams);
     if ((call->args[2] & ~(uint64_t)PF_UNIX) || !is_served) return -EPROTONOSUPPORT;
-    if (options.networks) setns(call->process->pidfd, CLONE_NEWNET); /* To be counted there. */
-    long result = is_pair ? socketpair(AF_UNIX, flags | SOCK_CLOEXEC, 0, hosts)
-                          : (hosts[0] = socket(AF_UNIX, flags | SOCK_CLOEXEC, 0));
-    if (result < 0) return errno == EMFILE ? -ENFILE : -errno; /* Of the supervisor, EMFILE. */
+    long result = open_placeholders(call, is_pair, hosts);
+    if (result < 0) return result;
     sync_table(call->process);
     struct jw_pair pair = {0, 0};
     int64_t answer = is_pair ? jw_pair(&engine, call->pid, kind, &pair)
@@ -208,9 +219,10 @@ long serve_accept(struct call *call) {
     struct file *file = file_of(call->process, fd);
     file->is_embryo = false;
     if (poll(&ask, 1, 0) == 1) /* Connections wait in the order of the layer. */
-        size_buffer(file->host = accept4(ask.fd, NULL, NULL, flags | SOCK_CLOEXEC));
+        file->host = keep_back(accept4(ask.fd, NULL, NULL, flags | SOCK_CLOEXEC), KEPT_FOR_PROCESSES);
+    if (file->host >= 0) size_buffer(file->host);
     result = install(call, &fd, 1, flags & SOCK_CLOEXEC);
-    if (result < 0) return result;
+    if (result < 0) return file->host < 0 ? -ENFILE : result;
     if (call->args[1] != 0) write_address(call, call->args[1], call->args[2], &file->peer);
     return fd;
 }

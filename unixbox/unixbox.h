@@ -31,6 +31,8 @@
 
 /* The first two are answers of handlers, beside a value or a negative errno. */
 enum { KERNEL_DOES_IT = -100001, CALL_WAITS = -100002, EVERYONE = 0, FILE_SLOTS = 4096 };
+/* How many descriptors sockets leave to processes and calls, and processes to calls. */
+enum { KEPT_FOR_PROCESSES = 96, KEPT_FOR_CALLS = 32 };
 
 extern struct options {
     enum { COLLECT_NEVER, COLLECT_SLICES, COLLECT_PASSES } collector;
@@ -42,6 +44,7 @@ extern struct options {
 
 extern struct counts { /* Of calls of programs, of calls of the layer (steps), and so on. */
     uint64_t calls, steps, passes, reclaimed, other_numbers, wrong_counts, failed_checks, lost;
+    uint64_t strangers; /* Calls of processes that the layer does not know. */
 } counts;
 
 /* What /proc/PID/status says of a thread and its process. */
@@ -55,13 +58,14 @@ struct status {
 struct process {
     pid_t tgid;           /* The host's number. 0 until it is known. */
     uint32_t pid;         /* The layer's number. */
-    pid_t parent, forker; /* The process and the thread that forked it. */
-    int pidfd;
+    pid_t forker;         /* The thread that forked it. */
+    int pidfd, spare;     /* Until it is bound, these keep back what its binding takes. */
     DIR *table;           /* /proc/TGID/fd */
+    bool is_orphan;       /* It is not bound, and the thread that forked it is over. */
     bool is_over, has_threads, has_changed; /* By exec(2) or setuid(2): what follows is stale. */
     struct status status;
     pid_t closer;         /* The thread whose close(2) the kernel may not have done yet, or 0. */
-    LIST_ENTRY(process) entries;
+    LIST_ENTRY(process) entries, unbound_entries;
 };
 
 /* What the supervisor keeps for a file of the layer. */
@@ -120,12 +124,18 @@ void rerun_woken_calls(void);
 bool read_memory(const struct call *call, void *to, uint64_t from, size_t length);
 bool write_memory(const struct call *call, uint64_t to, const void *from, size_t length);
 
+long add_process(uint32_t pid, pid_t forker);
+void bind_children(pid_t caller);
+
+const char *read_all(pid_t tid, const char *name);
 bool read_status(pid_t tid, struct status *out);
-void add_process(uint32_t pid, pid_t parent, pid_t forker);
+void bind_process(struct process *process, pid_t tgid);
+struct process *process_by(pid_t tgid);
 struct process *process_of(pid_t tid);
 void forget_process(struct process *process);
 bool forget_ended(void);
 
+int keep_back(int host, int count);
 void *copy_of(const void *value, size_t size);
 struct jw_file state_of(uint64_t ino);
 struct file *file_at(uint64_t ino);
