@@ -47,7 +47,7 @@ void sync_table(struct process *process) {
         usleep(LOOK_MICROSECONDS);
     bool has_changed = process->has_changed;
     if (table.st_size == count && !has_changed) return;
-    if (has_changed) read_status(process->tgid, &process->status);
+    if (has_changed) refresh_process(process);
     process->has_changed = false;
     rewinddir(process->table);
     for (struct dirent *it; (it = readdir(process->table)) != NULL;)

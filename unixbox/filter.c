@@ -45,7 +45,7 @@ static handler *const handlers[MOST_NUMBERS] = {
     [SYS_execveat] = serve_change, [SYS_exit_group] = serve_change, [SYS_setuid] = serve_change,
     [SYS_setgid] = serve_change, [SYS_setreuid] = serve_change, [SYS_setregid] = serve_change,
     [SYS_setresuid] = serve_change, [SYS_setresgid] = serve_change, [SYS_prlimit64] = serve_limit,
-    [SYS_setrlimit] = refuse, [SYS_io_uring_setup] = refuse, [SYS_io_setup] = refuse,
+    [SYS_setrlimit] = refuse, [SYS_setgroups] = serve_change, [SYS_setns] = serve_change, [SYS_io_uring_setup] = refuse, [SYS_io_setup] = refuse,
     [SYS_splice] = refuse, [SYS_sendfile] = serve_sendfile, [SYS_unshare] = serve_unshare,
     [SYS_close_range] = refuse, [SYS_pidfd_getfd] = refuse, [SYS_prctl] = serve_prctl,
 };

@@ -77,7 +77,7 @@ static long read_message(struct call *call) {
 static long read_control(const struct call *call) {
     struct msghdr copy = {.msg_control = control, .msg_controllen = message.header.msg_controllen};
     char *end = control + copy.msg_controllen;
-    message.user = call->process->status.user;
+    message.user = user_of(call, peer_of(call->file));
     for (struct cmsghdr *it = CMSG_FIRSTHDR(&copy); it != NULL; it = CMSG_NXTHDR(&copy, it)) {
         size_t size = it->cmsg_len - CMSG_LEN(0), count = size / sizeof(int);
         if (it->cmsg_len < CMSG_LEN(0) || it->cmsg_len > (size_t)(end - (char *)it)) return -EINVAL;
@@ -87,13 +87,13 @@ static long read_control(const struct call *call) {
             message.fd_count += count;
         } else if (it->cmsg_type == SCM_CREDENTIALS && size == sizeof message.user) {
             memcpy(&message.user, CMSG_DATA(it), size);
+            long result = check_claim(call, &message.user);
+            if (result < 0) return result;
         } else {
             return -EINVAL;
         }
     }
-    const struct ucred *own = &call->process->status.user, *user = &message.user;
-    bool is_own = user->pid == own->pid && user->uid == own->uid && user->gid == own->gid;
-    return is_own || geteuid() == 0 ? 0 : -EPERM;
+    return 0;
 }
 
 /* Copies the plain files that a message sends, for its receiver. */
@@ -209,7 +209,8 @@ static void write_header(const struct call *call, bool has_user) {
     struct msghdr *header = &message.header;
     size_t used = 0;
     if (message.at == 0) return;
-    if (has_user) used = add_control(used, SCM_CREDENTIALS, &message.user, sizeof message.user);
+    struct ucred user = has_user ? user_told_to(call, message.user) : message.user;
+    if (has_user) used = add_control(used, SCM_CREDENTIALS, &user, sizeof user);
     if (message.fd_count > 0)
         used = add_control(used, SCM_RIGHTS, message.fds, message.fd_count * sizeof(int));
     header->msg_controllen = used < header->msg_controllen ? used : header->msg_controllen;

@@ -53,6 +53,7 @@ void free_file(struct file *file) {
     LIST_REMOVE(file, entries);
     if (file->host >= 0) close(file->host);
     if (file->path >= 0) close(file->path);
+    set_peer(file, file->peer_user, NULL);
     free(file);
 }
 

@@ -31,7 +31,7 @@ static const char *field(const char *text, const char *name) {
 }
 
 /* Reads the numbers behind a name in /proc/PID/status. Returns how many there are. */
-static size_t read_numbers(const char *text, const char *name, uint32_t *out, size_t most) {
+size_t read_numbers(const char *text, const char *name, uint32_t *out, size_t most) {
     const char *at = field(text, name);
     size_t count = 0;
     for (char *end; count < most && *at != '\n'; at = end, count++) {
@@ -43,6 +43,11 @@ static size_t read_numbers(const char *text, const char *name, uint32_t *out, si
 
 static uint64_t read_mask(const char *text, const char *name) {
     return strtoul(field(text, name), NULL, 16);
+}
+
+/* Returns the effective capabilities in /proc/PID/status. */
+uint64_t read_capabilities(const char *text) {
+    return read_mask(text, "CapEff");
 }
 
 /* Returns whether a signal waits for the thread of this status. One that is sent to a process goes
@@ -70,9 +75,17 @@ bool read_status(pid_t tid, struct status *out) {
     out->umask = (mode_t)strtoul(field(text, "Umask"), NULL, 8);
     read_numbers(text, "Uid", users, 2);
     read_numbers(text, "Gid", groups, 2);
+    out->real = (struct ucred){(pid_t)tgid, users[0], groups[0]};
     out->user = (struct ucred){(pid_t)tgid, users[1], groups[1]};
     out->is_signalled = has_signal(text, tid, (pid_t)tgid);
     return true;
+}
+
+/* Reads once more what a process is. */
+void refresh_process(struct process *process) {
+    read_status(process->tgid, &process->status);
+    process->user_namespace = namespace_of(process->tgid, "user");
+    forget_credentials(process);
 }
 
 struct process *process_by(pid_t tgid) {
@@ -91,10 +104,13 @@ void bind_process(struct process *process, pid_t tgid) {
     close(process->spare);
     process->spare = -1;
     process->tgid = tgid;
+    process->pid_namespace = namespace_of(tgid, "pid");
     process->table = opendir(path);
     process->pidfd = (int)syscall(SYS_pidfd_open, tgid, 0);
     if (process->table == NULL || epoll_ctl(watches, EPOLL_CTL_ADD, process->pidfd, &event) < 0)
         forget_process(process);
+    else
+        note_pids(process);
 }
 
 static void exit_process(struct process *process) {
@@ -108,6 +124,7 @@ void forget_process(struct process *process) {
     wake(EVERYONE); /* Its calls end. */
     close(process->pidfd);
     if (process->spare >= 0) close(process->spare);
+    forget_credentials(process);
     if (process->table != NULL) closedir(process->table);
     free(process);
 }
@@ -146,9 +163,10 @@ long serve_fork(struct call *call) {
     return result < 0 ? result : KERNEL_DOES_IT;
 }
 
-/* Threads share their table for good. */
+/* Threads share their table for good. A new user namespace has other numbers. */
 long serve_unshare(struct call *call) {
     bool is_left = (call->args[0] & CLONE_FILES) && call->process->has_threads;
+    call->process->has_changed |= (call->args[0] & CLONE_NEWUSER) != 0;
     return is_left ? -EINVAL : KERNEL_DOES_IT;
 }
 

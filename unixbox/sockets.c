@@ -49,7 +49,7 @@ long serve_socket(struct call *call) {
     uint32_t fds[] = {is_pair ? pair.first : (uint32_t)result, pair.second};
     for (size_t i = 0; i < count; i++) {
         struct file *file = file_of(call->process, fds[i]);
-        file->owner = call->process->status.user;
+        if (is_pair) set_peer_process(file, call->process);
         if (is_pair) file->peer = unnamed;
         size_buffer(file->host = hosts[i]);
     }
@@ -147,22 +147,26 @@ long serve_name(struct call *call) {
     return write_address(call, call->args[1], call->args[2], is_peer ? &file->peer : own);
 }
 
+/* setsockopt(2) of SO_PASSCRED. */
+static long pass_users(const struct call *call) {
+    int passes = 0;
+    if ((int)call->args[4] < (int)sizeof passes) return -EINVAL;
+    if (!read_memory(call, &passes, call->args[3], sizeof passes)) return -EFAULT;
+    setsockopt(call->file->host, SOL_SOCKET, SO_PASSCRED, &passes, sizeof passes);
+    call->file->passes_users = passes != 0;
+    return 0;
+}
+
 /* getsockopt(2) and setsockopt(2). Placeholders keep their buffers. */
 long serve_option(struct call *call) {
-    const struct file *peer = call->file->listens ? call->file : peer_of(call->file);
-    struct ucred owner = peer != NULL ? peer->owner : (struct ucred){0, (uid_t)-1, (gid_t)-1};
     bool is_set = call->number == SYS_setsockopt;
     int option = (int)call->args[2];
-    socklen_t room = 0;
     if ((int)call->args[1] != SOL_SOCKET) return KERNEL_DOES_IT;
     if (is_set && (option == SO_SNDBUF || option == SO_SNDBUFFORCE)) return 0;
+    if (is_set && option == SO_PASSCRED) return pass_users(call);
     if (option == SO_PEEK_OFF || option == PASS_PIDFD || option == PEER_PIDFD) return -ENOPROTOOPT;
-    if (option != SO_PEERCRED || is_set) return KERNEL_DOES_IT;
-    if (!read_memory(call, &room, call->args[4], sizeof room)) return -EFAULT;
-    if (room > INT_MAX) return -EINVAL;
-    if (room > sizeof owner) room = sizeof owner;
-    return write_memory(call, call->args[3], &owner, room) &&
-           write_memory(call, call->args[4], &room, sizeof room) ? 0 : -EFAULT;
+    if (is_set || (option != SO_PEERCRED && option != SO_PEERGROUPS)) return KERNEL_DOES_IT;
+    return serve_peer(call);
 }
 
 long serve_listen(struct call *call) {
@@ -174,7 +178,7 @@ long serve_listen(struct call *call) {
                          "listen %u %u", call->fd, most);
     if (result < 0) return result;
     call->file->listens = true;
-    call->file->owner = call->process->status.user;
+    set_peer_process(call->file, call->process); /* Whom its clients see. */
     bind(call->file->host, &any, sizeof any.sa_family);
     listen(call->file->host, INT_MAX);
     return 0;
@@ -203,8 +207,9 @@ long serve_connect(struct call *call) {
     embryo->is_embryo = true;
     embryo->own = client->peer = listener->own;
     embryo->peer = client->own.length > 0 ? client->own : unnamed;
-    embryo->owner = listener->owner;
-    client->owner = call->process->status.user;
+    embryo->passes_users = listener->passes_users;
+    set_peer(client, listener->peer_user, listener->peer_groups);
+    set_peer_process(embryo, call->process);
     return 0;
 }
 

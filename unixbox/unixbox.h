@@ -33,6 +33,7 @@
 enum { KERNEL_DOES_IT = -100001, CALL_WAITS = -100002, EVERYONE = 0, FILE_SLOTS = 4096 };
 /* How many descriptors sockets leave to processes and calls, and processes to calls. */
 enum { KEPT_FOR_PROCESSES = 96, KEPT_FOR_CALLS = 32 };
+enum { MOST_RANGES = 340 }; /* Of a user namespace's map. */
 
 extern struct options {
     enum { COLLECT_NEVER, COLLECT_SLICES, COLLECT_PASSES } collector;
@@ -50,7 +51,7 @@ extern struct counts { /* Of calls of programs, of calls of the layer (steps), a
 /* What /proc/PID/status says of a thread and its process. */
 struct status {
     char name[16];
-    struct ucred user;    /* Its pid is the number of the process. */
+    struct ucred user, real; /* Their pid is the number of the process. The first is effective. */
     mode_t umask;
     bool is_signalled;    /* A signal waits that is neither blocked nor ignored. */
 };
@@ -64,6 +65,8 @@ struct process {
     bool is_orphan;       /* It is not bound, and the thread that forked it is over. */
     bool is_over, has_threads, has_changed; /* By exec(2) or setuid(2): what follows is stale. */
     struct status status;
+    struct groups *groups; /* NULL until they are asked for. */
+    ino_t pid_namespace, user_namespace;
     pid_t closer;         /* The thread whose close(2) the kernel may not have done yet, or 0. */
     LIST_ENTRY(process) entries, unbound_entries;
 };
@@ -81,12 +84,22 @@ struct file {
         struct sockaddr_un name;
         socklen_t length; /* 0 where there is none. */
     } own, peer;          /* Its name; that of its peer, also after the end of that. */
-    struct ucred owner;   /* For SO_PEERCRED at its peer. */
+    struct ucred peer_user; /* SO_PEERCRED, also of a peer that is over. */
+    struct groups *peer_groups; /* SO_PEERGROUPS. NULL where it has had no peer. */
+    bool passes_users;    /* SO_PASSCRED */
     struct ucred senders[JW_MAX_MESSAGES]; /* Who sent the messages in its queue: a ring. */
     uint64_t taken;       /* How many messages have left the queue. */
     struct status sender; /* Who sent this file last. */
     uint64_t places;      /* How many places in tables a recount finds. */
     LIST_ENTRY(file) entries;
+};
+
+/* How a user namespace numbers users or groups. */
+struct map {
+    size_t count;
+    struct range {
+        uint32_t inside, outside, count;
+    } ranges[MOST_RANGES];
 };
 
 struct call {
@@ -128,12 +141,34 @@ long add_process(uint32_t pid, pid_t forker);
 void bind_children(pid_t caller);
 
 const char *read_all(pid_t tid, const char *name);
+size_t read_numbers(const char *text, const char *name, uint32_t *out, size_t most);
+uint64_t read_capabilities(const char *text);
 bool read_status(pid_t tid, struct status *out);
+void refresh_process(struct process *process);
 void bind_process(struct process *process, pid_t tgid);
 struct process *process_by(pid_t tgid);
 struct process *process_of(pid_t tid);
 void forget_process(struct process *process);
 bool forget_ended(void);
+
+ino_t namespace_of(pid_t tid, const char *kind);
+void read_own_namespaces(void);
+bool shares_users(const struct process *process);
+bool owns_pids(const struct process *process);
+void note_pids(const struct process *process);
+pid_t pid_told_to(const struct process *process, pid_t pid);
+pid_t pid_meant_by(const struct process *process, pid_t pid);
+void read_map(const struct process *process, const char *name, struct map *out);
+uint32_t id_told(const struct map *map, uint32_t outside);
+uint32_t id_meant(const struct map *map, uint32_t inside);
+
+void forget_credentials(struct process *process);
+void set_peer(struct file *file, struct ucred user, struct groups *groups);
+void set_peer_process(struct file *file, struct process *process);
+struct ucred user_told_to(const struct call *call, struct ucred user);
+struct ucred user_of(const struct call *call, const struct file *peer);
+long check_claim(const struct call *call, struct ucred *user);
+long serve_peer(const struct call *call);
 
 int keep_back(int host, int count);
 void *copy_of(const void *value, size_t size);
