@@ -57,10 +57,10 @@ recounts() {
 
 # Runs the programs under a build of unixbox.
 plays() {
-    for name in descriptors arguments senders children credentials; do
+    for name in descriptors arguments senders children paths credentials; do
         same "$1" "$user" "$room/$name"
     done
-    for name in waits processes children credentials; do
+    for name in waits processes children paths credentials; do
         same "$1" "" "$room/$name"
     done
     (ulimit -n 256 && same "$1" "$user" "$room/children" full)
@@ -72,7 +72,8 @@ plays() {
     echo "unixbox: the programs passed$2"
 }
 
-for name in notification descriptors arguments senders waits processes children credentials cost; do
+for name in notification descriptors arguments senders waits processes children paths credentials \
+    cost; do
     $cc $checks -pedantic "tests/unixbox/$name.c" -o "$room/$name" -lpthread
 done
 if ! $user "$room/notification" 2> "$room/why"; then

@@ -81,7 +81,7 @@ bool write_memory(const struct call *call, uint64_t to, const void *from, size_t
 }
 
 /* Whether the caller waits for an answer. While it does, no other thread has its number. */
-static bool is_pending(const struct call *call) {
+bool is_pending(const struct call *call) {
     return ioctl(notifications, SECCOMP_IOCTL_NOTIF_ID_VALID, &call->id) == 0;
 }
 

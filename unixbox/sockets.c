@@ -59,10 +59,10 @@ long serve_socket(struct call *call) {
     return write_memory(call, call->args[3], fds, sizeof fds) ? 0 : -EFAULT;
 }
 
-/* A name as a call gives it, the layer's name, and how the supervisor reaches a pathname. */
+/* A name as a call gives it, and the layer's. */
 struct name {
     struct address address;
-    char key[KEY_ROOM], path[PATH_MAX]; /* The path is empty where the name is abstract. */
+    char path[PATH_ROOM], key[KEY_ROOM]; /* The path is empty where the name is abstract. */
 };
 
 /* Reads the name of a bind(2) or a connect(2). It has no key yet. */
@@ -75,27 +75,25 @@ static long read_name(const struct call *call, struct name *out) {
     if (!read_memory(call, &out->address.name, call->args[1], length)) return -EFAULT;
     if (out->address.name.sun_family != AF_UNIX) return -EINVAL;
     if (length == PATH_START || path[0] == '\0') return 0;
-    int bytes = (int)strnlen(path, length - PATH_START);
-    out->address.length = PATH_START + (socklen_t)bytes + 1;
-    snprintf(out->path, PATH_MAX, "/proc/%d/%s/%.*s", call->tid, path[0] == '/' ? "root" : "cwd",
-             bytes, path);
+    snprintf(out->path, sizeof out->path, "%.*s", (int)(length - PATH_START), path);
+    out->address.length = PATH_START + (socklen_t)strlen(out->path) + 1;
     return 0;
 }
 
 /* Gives a name its key: of a pathname, the device and the inode of the socket's file. An abstract
  * name has any bytes, and each type of sockets its own: the key is a hash (FNV-1a). */
-static long find_key(struct name *name, uint32_t kind) {
+static long find_key(struct name *name, uint32_t kind, int file) {
     const uint8_t *bytes = (const uint8_t *)&name->address.name;
     uint64_t hash = 14695981039346656037u;
-    struct stat file = {.st_mode = S_IFSOCK};
-    if (name->path[0] != '\0' && stat(name->path, &file) < 0) return -errno;
+    struct stat found = {.st_mode = S_IFSOCK};
+    if (file >= 0 && fstat(file, &found) < 0) return -errno;
     for (socklen_t i = PATH_START; i < name->address.length; i++)
         hash = (hash ^ bytes[i]) * 1099511628211u;
-    if (name->path[0] != '\0')
-        sprintf(name->key, "f.%lx.%lx", file.st_dev, file.st_ino);
+    if (file >= 0)
+        sprintf(name->key, "f.%lx.%lx", found.st_dev, found.st_ino);
     else
         sprintf(name->key, "%c.%016lx", kind == JW_STREAM ? 's' : 'q', hash);
-    return S_ISSOCK(file.st_mode) ? 0 : -ECONNREFUSED;
+    return S_ISSOCK(found.st_mode) ? 0 : -ECONNREFUSED;
 }
 
 /* Writes a name as far as there is room, and its length. */
@@ -108,10 +106,23 @@ long write_address(const struct call *call, uint64_t at, uint64_t length_at,
            write_memory(call, length_at, &length, sizeof length) ? 0 : -EFAULT;
 }
 
+/* Makes the file of a socket that is bound to a pathname. */
+static int make_file(const struct call *call, const struct name *name) {
+    struct stat host = {.st_mode = 0777}; /* fchmod(2) may have changed it. */
+    fstat(call->file->host, &host);
+    read_status(call->tid, &call->process->status);
+    mode_t mode = host.st_mode & 07777 & ~call->process->status.umask;
+    int file = make_socket_file(call, name->path, mode);
+    if (file < 0) return file == -EEXIST ? -EADDRINUSE : file;
+    if (keep_back(file, KEPT_FOR_PROCESSES) >= 0) return file;
+    remove_socket_file(call, name->path, file);
+    return -ENFILE;
+}
+
 long serve_bind(struct call *call) {
     static unsigned next;
     struct name name;
-    struct status *status = &call->process->status;
+    int file = -1;
     long result = read_name(call, &name);
     if (result < 0) return result;
     if (call->file->own.length > 0) return name.address.length == PATH_START ? 0 : -EINVAL;
@@ -119,24 +130,17 @@ long serve_bind(struct call *call) {
         sprintf(name.address.name.sun_path + 1, "%05x", next++ & 0xfffff);
         name.address.length = PATH_START + 6;
     }
-    if (name.path[0] != '\0') { /* Makes the socket's file for the caller. */
-        read_status(call->tid, status);
-        if (mknod(name.path, S_IFSOCK | (0777 & ~status->umask), 0) < 0)
-            return errno == EEXIST ? -EADDRINUSE : -errno;
-        if (lchown(name.path, status->user.uid, status->user.gid) < 0) return -errno;
-        call->file->path = open(name.path, O_PATH | O_NOFOLLOW | O_CLOEXEC);
+    if (name.path[0] != '\0' && (file = make_file(call, &name)) < 0) return file;
+    result = find_key(&name, call->file->kind, file);
+    if (result == 0) {
+        int64_t answer = jw_bind(&engine, call->pid, call->fd, name.key, strlen(name.key));
+        result = record(call->pid, answer, "bind %u %s", call->fd, name.key);
     }
-    result = find_key(&name, call->file->kind);
+    if (result < 0 && file >= 0) remove_socket_file(call, name.path, file);
     if (result < 0) return result;
-    int64_t answer = jw_bind(&engine, call->pid, call->fd, name.key, strlen(name.key));
-    result = record(call->pid, answer, "bind %u %s", call->fd, name.key);
-    if (result == 0) call->file->own = name.address;
-    if (result < 0 && name.path[0] != '\0') {
-        unlink(name.path);
-        close(call->file->path);
-        call->file->path = -1;
-    }
-    return result;
+    call->file->own = name.address;
+    call->file->path = file;
+    return 0;
 }
 
 long serve_name(struct call *call) {
@@ -192,8 +196,11 @@ long serve_connect(struct call *call) {
     uint64_t inos[4];
     long result = read_name(call, &name);
     if (result == 0 && name.address.length == PATH_START) result = -EINVAL;
-    if (result == 0 && name.path[0] != '\0' && access(name.path, W_OK) < 0) result = -errno;
-    if (result == 0) result = find_key(&name, client->kind);
+    if (result < 0) return result;
+    int file = name.path[0] != '\0' ? open_socket_file(call, name.path) : -1;
+    if (name.path[0] != '\0' && file < 0) return file;
+    result = find_key(&name, client->kind, file);
+    if (file >= 0) close(file);
     if (result < 0) return result;
     int64_t answer = jw_connect(&engine, call->pid, call->fd, name.key, strlen(name.key));
     result = record(call->pid, answer, "connect %u %s", call->fd, name.key);

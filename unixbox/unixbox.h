@@ -33,7 +33,7 @@
 enum { KERNEL_DOES_IT = -100001, CALL_WAITS = -100002, EVERYONE = 0, FILE_SLOTS = 4096 };
 /* How many descriptors sockets leave to processes and calls, and processes to calls. */
 enum { KEPT_FOR_PROCESSES = 96, KEPT_FOR_CALLS = 32 };
-enum { MOST_RANGES = 340 }; /* Of a user namespace's map. */
+enum { PATH_ROOM = 109, MOST_RANGES = 340 }; /* Of a pathname; of a user namespace's map. */
 
 extern struct options {
     enum { COLLECT_NEVER, COLLECT_SLICES, COLLECT_PASSES } collector;
@@ -134,6 +134,7 @@ void *serve_calls(void *none);
 long wait_for(struct call *call, int flags, uint64_t ino);
 void wake(uint64_t ino);
 void rerun_woken_calls(void);
+bool is_pending(const struct call *call);
 bool read_memory(const struct call *call, void *to, uint64_t from, size_t length);
 bool write_memory(const struct call *call, uint64_t to, const void *from, size_t length);
 
@@ -169,6 +170,13 @@ struct ucred user_told_to(const struct call *call, struct ucred user);
 struct ucred user_of(const struct call *call, const struct file *peer);
 long check_claim(const struct call *call, struct ucred *user);
 long serve_peer(const struct call *call);
+
+void borrow_rights(const struct call *call);
+void act_as_caller(bool as_caller);
+bool may_follow(int folder, int link);
+int open_socket_file(const struct call *call, const char *path);
+int make_socket_file(const struct call *call, const char *path, mode_t mode);
+void remove_socket_file(const struct call *call, const char *path, int file);
 
 int keep_back(int host, int count);
 void *copy_of(const void *value, size_t size);
