@@ -1,5 +1,5 @@
 //! Where the log of a layer begins.
-ghost use Rattle.std.specs.Prelude.{◌≡◌, ◌⊎◌, ℕ, IfErr, IfOk, OnErr, OnOk, Some};
+ghost use Rattle.std.specs.Prelude.{◌≡◌, ◌⊎◌, ℕ, [], IfErr, IfOk, OnErr, OnOk, Some};
 ghost use Rattle.af_base.specs.declared.events.Reply.{Reply as Answer};
 ghost use Rattle.af_base.specs.Pass.{Machine};
 ghost use Rattle.af_base.specs.Run.{fresh};
@@ -120,9 +120,11 @@ impl BookFrom<AtCheckpoint> {
         ensures legal { HasLegalLog self.old }
         ensures log { IfOk result (λ log. log.items ≡ self.old.log) }
         ensures whole { OnOk result (IsWholeBook self.old seats.old) }
+        ensures book { OnOk result
+            (self.new ≡ record self.old { start = self.old.machine; log = [] }) }
         ensures seats { OnOk result (AreEmptied seats.old seats.new) }
         ensures fault { IfErr result (HasFault self.old seats.old) }
-        ensures same { OnErr result (seats.new ≡ seats.old) }
+        ensures same { OnErr result ((self.new ≡ self.old) × (seats.new ≡ seats.old)) }
     {
         // The invariant of the book, which says where its log begins and ends.
         self.book.log();
