@@ -43,8 +43,19 @@ static int64_t allowed(int line, int64_t answer) {
     return answer;
 }
 
-/* A call of a worker. */
-#define CALL(worker, call) ((worker)->calls++, allowed(__LINE__, (call)))
+/* Takes the lock for one call. */
+static jw_engine *lock(void) {
+    return jw_shared_lock(&shared);
+}
+
+/* Releases the lock, and returns what the call answered. */
+static int64_t unlock(int64_t answer) {
+    jw_shared_unlock(&shared);
+    return answer;
+}
+
+/* A call of a worker, which takes the lock. */
+#define CALL(worker, call) ((worker)->calls++, allowed(__LINE__, unlock(call)))
 
 /* A check, or a call by the main thread. */
 #define MUST(condition) \
@@ -65,22 +76,22 @@ static uint32_t below(struct worker *worker, uint32_t bound) {
 
 static void close_all(struct worker *worker, const uint32_t *fds, size_t count) {
     for (size_t i = 0; i < count; i++)
-        MUST(CALL(worker, jw_shared_close(&shared, worker->pid, fds[i])) == 0);
+        MUST(CALL(worker, jw_close(lock(), worker->pid, fds[i])) == 0);
 }
 
 /* Opens up to three files and sends them to the next worker. */
 static void send_files(struct worker *worker) {
     uint32_t fds[MOST_FDS], wanted = below(worker, MOST_FDS + 1), count = 0;
     while (count < wanted) {
-        int64_t fd = CALL(worker, jw_shared_open(&shared, worker->pid));
+        int64_t fd = CALL(worker, jw_open(lock(), worker->pid));
         if (fd < 0)
             break;
         fds[count++] = (uint32_t)fd;
         worker->made++;
     }
     const uint64_t message[2] = {worker->sent, count};
-    int64_t length = CALL(worker, jw_shared_send(&shared, worker->pid, worker->to, message,
-                                                 sizeof message, fds, count));
+    int64_t length = CALL(worker, jw_send(lock(), worker->pid, worker->to, message,
+                                          sizeof message, fds, count));
     if (length > 0)
         worker->sent++;
     close_all(worker, fds, count);
@@ -91,8 +102,8 @@ static void receive_files(struct worker *worker) {
     struct jw_received got;
     uint64_t message[2];
     uint32_t fds[MOST_FDS];
-    int64_t length = CALL(worker, jw_shared_recv(&shared, worker->pid, worker->from, message,
-                                                 sizeof message, fds, MOST_FDS, &got));
+    int64_t length = CALL(worker, jw_recv(lock(), worker->pid, worker->from, message,
+                                          sizeof message, fds, MOST_FDS, &got));
     if (length < 0)
         return;
     MUST(length == sizeof message && !got.trunc && !got.ctrunc);
@@ -104,10 +115,10 @@ static void receive_files(struct worker *worker) {
 /* Makes two sockets that only the second one's queue holds in the end. */
 static void lose_pair(struct worker *worker) {
     struct jw_pair pair;
-    if (CALL(worker, jw_shared_pair(&shared, worker->pid, JW_STREAM, &pair)) < 0)
+    if (CALL(worker, jw_pair(lock(), worker->pid, JW_STREAM, &pair)) < 0)
         return;
     const uint32_t both[2] = {pair.first, pair.second};
-    MUST(CALL(worker, jw_shared_send(&shared, worker->pid, pair.first, "us", 2, both, 2)) == 2);
+    MUST(CALL(worker, jw_send(lock(), worker->pid, pair.first, "us", 2, both, 2)) == 2);
     close_all(worker, both, 2);
     worker->made += 2;
     worker->lost += 2;
@@ -118,10 +129,10 @@ static void look(struct worker *worker) {
     struct jw_file file;
     struct jw_ready ready;
     uint64_t ino = 0, refs = 0;
-    MUST(CALL(worker, jw_shared_ino(&shared, worker->pid, worker->to, &ino)) == 0 && ino > 0);
-    MUST(CALL(worker, jw_shared_file(&shared, ino, &file)) == 0 && file.kind == JW_SEQPACKET);
-    MUST(CALL(worker, jw_shared_refs(&shared, ino, &refs)) == 0 && refs == WORKERS);
-    MUST(CALL(worker, jw_shared_poll(&shared, worker->pid, worker->to, &ready)) == 0);
+    MUST(CALL(worker, jw_ino(lock(), worker->pid, worker->to, &ino)) == 0 && ino > 0);
+    MUST(CALL(worker, jw_file(lock(), ino, &file)) == 0 && file.kind == JW_SEQPACKET);
+    MUST(CALL(worker, jw_refs(lock(), ino, &refs)) == 0 && refs == WORKERS);
+    MUST(CALL(worker, jw_poll(lock(), worker->pid, worker->to, &ready)) == 0);
     MUST(!ready.hung_up);
 }
 
@@ -156,9 +167,9 @@ static void do_pass(struct collector *collector) {
     struct jw_finished finished;
     uint64_t number;
     int64_t runs;
-    MUST(jw_shared_begin(&shared, &number) == 0);
+    MUST(unlock(jw_begin(lock(), &number)) == 0);
     do {
-        runs = jw_shared_slice(&shared, BUDGET, &finished);
+        runs = unlock(jw_slice(lock(), BUDGET, &finished));
         MUST(runs >= 0);
         collector->slices++;
         count_freed(collector);
@@ -175,11 +186,11 @@ static void *collect(void *argument) {
 
 /* Makes the processes, which have all sockets of the ring. */
 static void make_ring(struct worker *workers, uint64_t share) {
-    MUST(jw_shared_new(&shared) == 0 && jw_shared_tell_released(&shared) == 0);
-    MUST(jw_shared_spawn(&shared, 7, JW_MAX_NOFILE, true) == 1);
+    MUST(jw_shared_new(&shared) == 0 && unlock(jw_tell_released(lock())) == 0);
+    MUST(unlock(jw_spawn(lock(), 7, JW_MAX_NOFILE, true)) == 1);
     for (uint32_t i = 0; i < WORKERS; i++) {
         struct jw_pair pair;
-        MUST(jw_shared_pair(&shared, 1, JW_SEQPACKET, &pair) == 0);
+        MUST(unlock(jw_pair(lock(), 1, JW_SEQPACKET, &pair)) == 0);
         workers[i].to = pair.first;
         workers[(i + 1) % WORKERS].from = pair.second;
         workers[i].made = 2;
@@ -188,7 +199,7 @@ static void make_ring(struct worker *workers, uint64_t share) {
         workers[i].pid = i + 1;
         workers[i].random = i + 1;
         workers[i].share = share;
-        MUST(i == 0 || jw_shared_fork(&shared, 1) == i + 1);
+        MUST(i == 0 || unlock(jw_fork(lock(), 1)) == i + 1);
     }
 }
 
@@ -197,7 +208,7 @@ static void settle(const struct worker *workers, struct collector *collector) {
     struct jw_checked checked;
     uint64_t made = 0, lost = 0, calls = 0, received = 0;
     for (uint32_t i = 0; i < WORKERS; i++) {
-        MUST(jw_shared_exit(&shared, workers[i].pid) == 0);
+        MUST(unlock(jw_exit(lock(), workers[i].pid)) == 0);
         MUST(workers[(i + 1) % WORKERS].received <= workers[i].sent);
         received += workers[i].received;
         made += workers[i].made;
@@ -205,7 +216,7 @@ static void settle(const struct worker *workers, struct collector *collector) {
         calls += workers[i].calls;
     }
     do_pass(collector);
-    MUST(jw_shared_check(&shared, &checked) == 0 && checked.live == 0 && checked.garbage == 0);
+    MUST(unlock(jw_check(lock(), &checked)) == 0 && checked.live == 0 && checked.garbage == 0);
     MUST(collector->freed == made && collector->sum == made * (made + 1) / 2);
     MUST(received > 0 && lost > 0 && collector->reclaimed == lost);
     printf("%" PRIu64 " calls, %" PRIu64 " files, %" PRIu64 " slices\n", calls, made,

@@ -27,8 +27,11 @@ static bool openclose(void *subject) {
 
 static bool shared_openclose(void *subject) {
     jw_shared *shared = subject;
-    int64_t fd = jw_shared_open(shared, 1);
-    return fd >= 0 && jw_shared_close(shared, 1, (uint32_t)fd) == 0;
+    int64_t fd = jw_open(jw_shared_lock(shared), 1);
+    jw_shared_unlock(shared);
+    int64_t closed = jw_close(jw_shared_lock(shared), 1, (uint32_t)fd);
+    jw_shared_unlock(shared);
+    return fd >= 0 && closed == 0;
 }
 
 static bool lock(void *subject) {
@@ -76,8 +79,10 @@ static bool measure_engine(void) {
 
 static bool measure_shared(void) {
     jw_shared shared = JW_SHARED_INIT;
-    bool done = jw_shared_new(&shared) == 0 && jw_shared_spawn(&shared, 1000, 1024, false) == 1
-        && measure("shared", &shared, shared_openclose, 2)
+    jw_engine *engine = jw_shared_lock(&shared);
+    bool done = jw_engine_new(engine) == 0 && jw_spawn(engine, 1000, 1024, false) == 1;
+    jw_shared_unlock(&shared);
+    done = done && measure("shared", &shared, shared_openclose, 2)
         && measure("lock", &shared, lock, 1);
     jw_shared_free(&shared);
     return done;
