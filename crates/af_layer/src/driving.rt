@@ -166,7 +166,7 @@ pub fn drive<R: Threads + Wait + Sync, O: Origin + Send, G: Gate + Sync>(
         });
     };
     // A refusal of this room shows at the call that needs it.
-    let _room = layer.reserve(rt, events_in(scripts.as_slice()));
+    let _room = layer.lock(rt).reserve(events_in(scripts.as_slice()));
     let workers = hand_out(workers, seats, scripts, collector);
     let workers = run(rt, layer, workers, gate);
     let fault = least_fault(workers.as_slice());

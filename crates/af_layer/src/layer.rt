@@ -2,29 +2,27 @@
 ghost use Rattle.std.specs.Prelude.{◌≡◌, ◌+◌, ◌<◌, ℕ, [], Err, IfErr, IfOk, MatchBool, OnErr, OnOk};
 ghost use Rattle.std.specs.Prelude.{slice_index_or, vec_len};
 ghost use Rattle.af_base.specs.declared.events.Reply.{Reply as Answer};
-ghost use Rattle.af_layer.specs.Audit.{AreEmptied, HasFault, IsWholeBook};
+ghost use Rattle.af_layer.specs.Audit.{HasFault, IsWholeBook};
 ghost use Rattle.af_layer.specs.Calls.{is_seat};
-ghost use Rattle.af_layer.specs.Log.{BookView, HasLegalLog, IsLegal, IsLegalFrom};
+ghost use Rattle.af_layer.specs.Log.{IsLegal, IsLegalFrom};
 ghost use Rattle.af_layer.specs.Seats.{SeatView, grown};
 
 use crate::audit::{CloseFault, audit};
 use crate::backoff;
 use crate::book::{Book, CallError};
-use crate::entry::Entry;
 use crate::origin::{AtCheckpoint, BookFrom, Fresh, Origin};
 use crate::seat::Seat;
 use crate::short::ShortEvent;
 use af_base::events::Event;
 use af_base::limits::MAX_SEATS;
-use std::alloc::{AllocError, Global};
-use std::marker::PhantomData;
+use std::alloc::Global;
 use std::sync::{Mutex, MutexGuard, Wait};
 use thiserror::Error;
 
 /// A book that threads share: one lock, and under it one call at a time.
 ///
 /// Its parameter says where its log begins. With `Fresh` it has all that was ever done; with
-/// `AtCheckpoint` it can be taken ([`Layer::checkpoint`]).
+/// `AtCheckpoint` it can be taken ([`BookFrom::checkpoint`]).
 pub struct Layer<O: Origin = Fresh> {
     book: Mutex<BookFrom<O>>,
 }
@@ -34,12 +32,6 @@ impl<O: Origin> Drop for Layer<O> {
     fn drop(self) {
         let Layer { book: _ } = self;
     }
-}
-
-/// A layer that is locked until this is dropped: no other thread calls between its calls.
-#[derive(Drop)]
-pub struct LayerGuard<'a, O: Origin = Fresh> {
-    book: MutexGuard<'a, BookFrom<O>>,
 }
 
 /// Why no layer was opened.
@@ -124,12 +116,8 @@ impl<O: Origin> Layer<O> {
     pub fn of(book: Book) -> Layer<O>
         requires { O.begins book.seats book.start }
     {
-        let book = BookFrom {
-            book,
-            origin: PhantomData,
-        };
         Layer {
-            book: Mutex::new(book),
+            book: Mutex::new(BookFrom::of(book)),
         }
     }
 
@@ -148,18 +136,11 @@ impl<O: Origin> Layer<O> {
         }
     }
 
-    /// Waits for the lock, and holds it until the guard is dropped: for calls that belong together,
-    /// or several for the price of one lock.
-    pub fn lock<R: Wait>(&self, rt: &R) -> LayerGuard<'_, O> {
-        LayerGuard {
-            book: backoff::lock(&self.book, rt),
-        }
-    }
-
-    /// Waits for the lock, and reserves room in the log for this many entries more:
-    /// [`Book::reserve`].
-    pub fn reserve<R: Wait>(&self, rt: &R, entries: usize) -> Result<(), AllocError> {
-        backoff::lock(&self.book, rt).reserve(entries)
+    /// Waits for the lock, and lends the book until the guard is dropped: for calls that belong
+    /// together, or several for the price of one lock. A call on the guard ensures what it does on
+    /// the book.
+    pub fn lock<R: Wait>(&self, rt: &R) -> MutexGuard<'_, BookFrom<O>> {
+        backoff::lock(&self.book, rt)
     }
 
     /// Ends the layer without an audit, and gives its book back. It waits for nobody.
@@ -168,47 +149,16 @@ impl<O: Origin> Layer<O> {
         ensures legal { IsLegalFrom result.start result.seats result.machine result.log }
     {
         let Layer { book } = self;
-        let BookFrom { book, .. } = book.into_inner();
+        let book = book.into_inner().into_book();
         // The invariant of the book, which says where its log begins and ends.
         book.log();
         book
     }
 }
 
-impl<O: Origin> LayerGuard<'_, O> {
-    /// Does one event from this seat. The errors are those of [`Seat::call_in`].
-    #[inline(always)]
-    pub fn call(&mut self, seat: &mut Seat, event: Event) -> Result<(), CallError>
-        ensures done { OnOk result ((reply : Answer) × (seat.new ≡ grown seat.old event reply)) }
-        ensures same { OnErr result (seat.new ≡ seat.old) }
-    {
-        self.book.call_from(seat, event)
-    }
-}
-
 impl Layer {
-    /// Turns the layer into one whose log can be taken, by [`Layer::checkpoint`].
+    /// Turns the layer into one whose log can be taken, by [`BookFrom::checkpoint`].
     pub fn allow_checkpoints(self) -> Layer<AtCheckpoint> {
         Layer::of(self.into_book())
-    }
-}
-
-impl Layer<AtCheckpoint> {
-    /// Waits for the lock, audits the seats as [`Layer::close`] does, hands over the log and
-    /// empties the list of each seat. The log begins where the last checkpoint ended: of that a
-    /// contract says that a legal log leads there.
-    ///
-    /// The error is what the audit found, and nothing has changed then. A seat that is not at hand
-    /// is missing, so no other thread calls meanwhile. It takes no memory. Its cost is linear in
-    /// the log and in the lists.
-    pub fn checkpoint<R: Wait>(&self, rt: &R, seats: &mut [Seat]) -> Result<Vec<Entry>, CloseFault>
-        ensures taken { IfOk result (λ log. (book : BookView)
-            × HasLegalLog book × (log.items ≡ book.log) × IsWholeBook book seats.old) }
-        ensures seats { OnOk result (AreEmptied seats.old seats.new) }
-        ensures fault { IfErr result (λ fault. (book : BookView)
-            × HasLegalLog book × HasFault book seats.old fault) }
-        ensures same { OnErr result (seats.new ≡ seats.old) }
-    {
-        backoff::lock(&self.book, rt).checkpoint(seats)
     }
 }

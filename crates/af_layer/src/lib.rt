@@ -4,7 +4,7 @@
 //! through the layer: a call waits for the lock, does one event, and puts it with its reply into
 //! the log ([`Book`]) and into the seat's own list. [`Layer::close`] compares all lists with the
 //! log. [`drive`] runs scripts, and a collector beside them, each from a seat and in a thread of
-//! its own. A [`Shared`] is an engine behind the same lock, without log and seats.
+//! its own. A [`Shared`] is a value, as an engine, behind the same lock, without log and seats.
 #![tactic(auto)]
 
 mod audit;
@@ -26,8 +26,8 @@ pub use audit::CloseFault;
 pub use book::{Book, CallError};
 pub use driving::{DriveError, DriveFault, drive};
 pub use entry::{Entry, EventReply};
-pub use layer::{CloseError, Closed, Layer, LayerGuard, OpenError};
-pub use origin::{AtCheckpoint, Fresh, Origin};
+pub use layer::{CloseError, Closed, Layer, OpenError};
+pub use origin::{AtCheckpoint, BookFrom, Fresh, Origin};
 pub use seat::Seat;
 pub use shared::Shared;
 pub use taken::{taken_logs_are_one, taken_parts_are_one};

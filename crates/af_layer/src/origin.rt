@@ -1,5 +1,6 @@
 //! Where the log of a layer begins.
-ghost use Rattle.std.specs.Prelude.{◌≡◌, ◌⊎◌, ℕ, [], IfErr, IfOk, OnErr, OnOk, Some};
+ghost use Rattle.std.specs.Prelude.{◌≡◌, ◌<◌, ◌⊎◌, ◌++◌, ◌∷◌, ℕ, [], IfErr, IfOk, None, OnErr, OnOk};
+ghost use Rattle.std.specs.Prelude.{Some, vec_capacity, vec_len};
 ghost use Rattle.af_base.specs.declared.events.Reply.{Reply as Answer};
 ghost use Rattle.af_base.specs.Pass.{Machine};
 ghost use Rattle.af_base.specs.Run.{fresh};
@@ -7,12 +8,12 @@ ghost use Rattle.af_layer.specs.Audit.{AreEmptied, HasFault, IsWholeBook};
 ghost use Rattle.af_layer.specs.Calls.{Calls, RefusedBy, call_refusal};
 ghost use Rattle.af_layer.specs.Log.{HasLegalLog, IsReached};
 ghost use Rattle.af_layer.specs.Seats.{grown};
-ghost use Rattle.af_layer.specs.Short.{event_of, reply_of};
+ghost use Rattle.af_layer.specs.Short.{event_of};
 
 use crate::audit::CloseFault;
 use crate::book::{Book, CallError};
 use crate::entry::Entry;
-use crate::seat::Seat;
+use crate::seat::{List, Seat};
 use crate::short::{ShortEvent, ShortReply};
 use af_base::events::Event;
 use std::alloc::AllocError;
@@ -50,11 +51,39 @@ impl Origin for Brand {
     ghost begins = { λ seats machine. machine ≡ fresh };
 }
 
-/// A book whose log begins where its origin says.
+/// The reply to a step of a locked book, until its seat keeps it. It is not `Drop`, and no other
+/// module can take it apart. So each step under the lock comes into the list of a seat.
+pub(crate) struct Unkept {
+    reply: ShortReply,
+}
+
+impl Model for Unkept {
+    ghost use Rattle.af_base.specs.declared.events.Reply.{Reply};
+    ghost use Rattle.af_layer.specs.Short.{reply_of};
+
+    ghost Value = { Reply };
+
+    ghost view = { λ u. reply_of u.reply };
+}
+
+impl Unkept {
+    /// Keeps the event and this reply in a seat's list.
+    #[inline(always)]
+    pub(crate) fn keep(self, list: &mut List, event: &ShortEvent)
+        requires { vec_len list.old.pairs < vec_capacity list.old.pairs }
+        ensures { list.new.pairs.items
+            ≡ list.old.pairs.items ++ (event_of event.now, self) ∷ [] }
+    {
+        let Unkept { reply } = self;
+        list.keep_short(event, &reply);
+    }
+}
+
+/// A book whose log begins where its origin says. A [`Layer`](crate::Layer) lends it.
 #[derive(Drop)]
 pub struct BookFrom<O: Origin> {
-    pub book: Book,
-    pub origin: PhantomData<O>,
+    book: Book,
+    origin: PhantomData<O>,
 }
 
 impl<O: Origin> Model for BookFrom<O> {
@@ -72,35 +101,61 @@ impl<O: Origin> Model for BookFrom<O> {
 }
 
 impl<O: Origin> BookFrom<O> {
+    /// Makes it of a book.
+    pub(crate) fn of(book: Book) -> BookFrom<O>
+        requires { O.begins book.seats book.start }
+        ensures { result ≡ book }
+    {
+        BookFrom {
+            book,
+            origin: PhantomData,
+        }
+    }
+
+    /// Gives the book back.
+    pub(crate) fn into_book(self) -> Book
+        ensures value { result ≡ self }
+        ensures origin { O.begins result.seats result.start }
+    {
+        let BookFrom { book, origin: _ } = self;
+        book
+    }
+
     /// Does an event for the seat of this number that has no bytes, and whose reply has none.
     #[inline(always)]
-    pub fn call_short(&mut self, seat: u32, event: &ShortEvent) -> Result<ShortReply, CallError>
+    pub(crate) fn call_short(&mut self, seat: u32, event: &ShortEvent) -> Result<Unkept, CallError>
         ensures done { IfOk result (λ reply.
-            Calls self.old seat (event_of event.now) (reply_of reply) self.new) }
+            Calls self.old seat (event_of event.now) reply self.new) }
         ensures refused { RefusedBy (call_refusal self.old seat) result }
         ensures same { OnErr result (self.new ≡ self.old) }
     {
-        self.book.call_short(seat, event)
+        let reply = self.book.call_short(seat, event)?;
+        Ok(Unkept { reply })
     }
 
-    /// Does one event from this seat, in a way that fits any event.
+    /// Does one event from this seat, in a way that fits any event: [`BookFrom::call`].
     #[inline(never)]
-    pub fn call_whole_from(&mut self, seat: &mut Seat, event: Event) -> Result<(), CallError>
-        ensures done { OnOk result ((reply : Answer) × (seat.new ≡ grown seat.old event reply)) }
+    pub(crate) fn call_whole_from(&mut self, seat: &mut Seat, event: Event) -> Result<(), CallError>
+        ensures done { OnOk result ((reply : Answer) × (seat.new ≡ grown seat.old event reply)
+            × Calls self.old seat.old.number event reply self.new) }
         ensures refused { IfErr result (λ e.
             (e ≡ CallError.NoRoom) ⊎ (call_refusal self.old seat.old.number ≡ Some e)) }
-        ensures same { OnErr result (seat.new ≡ seat.old) }
+        ensures seat { OnErr result (seat.new ≡ seat.old) }
+        ensures book { OnErr result (self.new ≡ self.old) }
     {
         seat.call_whole(&mut self.book, event)
     }
 
-    /// Does one event from this seat.
+    /// Does one event from this seat: [`Seat::call_in`].
     #[inline(always)]
-    pub fn call_from(&mut self, seat: &mut Seat, event: Event) -> Result<(), CallError>
-        ensures done { OnOk result ((reply : Answer) × (seat.new ≡ grown seat.old event reply)) }
+    pub fn call(&mut self, seat: &mut Seat, event: Event) -> Result<(), CallError>
+        ensures done { OnOk result ((reply : Answer) × (seat.new ≡ grown seat.old event reply)
+            × Calls self.old seat.old.number event reply self.new) }
+        ensures open { OnOk result (call_refusal self.old seat.old.number ≡ None) }
         ensures refused { IfErr result (λ e.
             (e ≡ CallError.NoRoom) ⊎ (call_refusal self.old seat.old.number ≡ Some e)) }
-        ensures same { OnErr result (seat.new ≡ seat.old) }
+        ensures seat { OnErr result (seat.new ≡ seat.old) }
+        ensures book { OnErr result (self.new ≡ self.old) }
     {
         seat.call_in(&mut self.book, event)
     }

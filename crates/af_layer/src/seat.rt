@@ -20,9 +20,15 @@ use std::sync::{Mutex, Wait};
 /// A caller, with its events and their replies since its list was emptied last.
 pub struct Seat {
     number: u32,
-    list: Vec<EventReply>,
+    list: List,
     /// The box for the next pair that needs one.
     spare: Option<Pair>,
+}
+
+/// The list of a seat. It is not `Drop`: so no call keeps its answer in a list of its own, and lets
+/// that go.
+pub(crate) struct List {
+    pairs: Vec<EventReply>,
 }
 
 /// It is written out, and not derived: so an owner's proof has one call where it drops a seat.
@@ -30,7 +36,7 @@ impl Drop for Seat {
     fn drop(self) {
         let Seat {
             number: _,
-            list: _,
+            list: List { pairs: _ },
             spare: _,
         } = self;
     }
@@ -41,7 +47,7 @@ impl Model for Seat {
 
     ghost Value = { SeatView };
 
-    ghost view = { λ s. record { number = s.number; list = s.list.items } };
+    ghost view = { λ s. record { number = s.number; list = s.list.pairs.items } };
 }
 
 impl Seat {
@@ -51,7 +57,9 @@ impl Seat {
     {
         Seat {
             number,
-            list: Vec::new(alloc),
+            list: List {
+                pairs: Vec::new(alloc),
+            },
             spare: None,
         }
     }
@@ -68,7 +76,7 @@ impl Seat {
     pub fn list(&self) -> &[EventReply]
         ensures { result.now ≡ self.now.list }
     {
-        self.list.as_slice()
+        self.list.pairs.as_slice()
     }
 
     /// Reserves room in the list for this many pairs more, and writes to each page of it. Until
@@ -76,14 +84,18 @@ impl Seat {
     pub fn reserve(&mut self, pairs: usize) -> Result<(), AllocError>
         ensures { self.new ≡ self.old }
     {
-        reserve_touched(&mut self.list, pairs, || EventReply::of(Entry::blank()))
+        reserve_touched(
+            &mut self.list.pairs,
+            pairs,
+            || EventReply::of(Entry::blank()),
+        )
     }
 
     /// Empties the list. Its room stays.
     pub(crate) fn empty_list(&mut self)
         ensures { self.new ≡ record self.old { list = [] } }
     {
-        self.list.clear();
+        self.list.pairs.clear();
     }
 
     /// Does one event on a book, under this seat's number, and keeps it with its reply.
@@ -119,9 +131,9 @@ impl Seat {
         ensures seat { OnErr result (self.new ≡ self.old) }
         ensures book { OnErr result (book.new ≡ book.old) }
     {
-        reserve(&mut self.list)?;
+        self.list.reserve_one()?;
         let reply = book.call_short(self.number, event)?;
-        keep_short(&mut self.list, event, &reply);
+        self.list.keep_short(event, &reply);
         Ok(())
     }
 
@@ -138,9 +150,9 @@ impl Seat {
             × (self.new ≡ grown self.old (event_of event.now) reply)) }
         ensures same { OnErr result (self.new ≡ self.old) }
     {
-        reserve(&mut self.list)?;
+        self.list.reserve_one()?;
         let reply = backoff::lock(book, rt).call_short(self.number, event)?;
-        keep_short(&mut self.list, event, &reply);
+        reply.keep(&mut self.list, event);
         Ok(())
     }
 
@@ -155,8 +167,8 @@ impl Seat {
         ensures seat { OnErr result (self.new ≡ self.old) }
         ensures book { OnErr result (book.new ≡ book.old) }
     {
-        reserve(&mut self.list)?;
-        let alloc = *self.list.allocator();
+        self.list.reserve_one()?;
+        let alloc = *self.list.pairs.allocator();
         if fill(alloc, &mut self.spare).is_err() {
             return Err(CallError::NoRoom);
         }
@@ -164,38 +176,42 @@ impl Seat {
             return Err(CallError::NoRoom);
         };
         let reply = book.call_whole(self.number, event)?;
-        keep_whole(&mut self.list, &mut self.spare, kept, reply);
+        self.list.keep_whole(&mut self.spare, kept, reply);
         Ok(())
     }
 }
 
-/// Keeps an event and its reply, in few words.
-#[inline(always)]
-fn keep_short(list: &mut Vec<EventReply>, event: &ShortEvent, reply: &ShortReply)
-    requires { vec_len list.old < vec_capacity list.old }
-    ensures { list.new.items ≡ list.old.items ++ (event_of event.now, reply_of reply.now) ∷ [] }
-{
-    list.push_reserved(EventReply::of(Entry::short(0, event, reply)));
-}
+impl List {
+    /// Reserves room for one pair more. The list is unchanged.
+    #[inline(always)]
+    fn reserve_one(&mut self) -> Result<(), CallError>
+        ensures room { OnOk result (vec_len self.new.pairs < vec_capacity self.new.pairs) }
+        ensures err { IfErr result (λ e. e ≡ CallError.NoRoom) }
+        ensures list { self.new.pairs.items ≡ self.old.pairs.items }
+    {
+        self.pairs.reserve(1).map_err(|_| CallError::NoRoom)
+    }
 
-/// Keeps an event and its reply, in the box if they need one.
-fn keep_whole(list: &mut Vec<EventReply>, spare: &mut Option<Pair>, event: Event, reply: Reply)
-    requires room { vec_len list.old < vec_capacity list.old }
-    requires spare { IsSome spare.old }
-    ensures { list.new.items ≡ list.old.items ++ (event, reply) ∷ [] }
-{
-    let entry = Entry::of(0, event, reply, spare);
-    list.push_reserved(EventReply::of(entry));
-}
+    /// Keeps an event and its reply, in few words.
+    #[inline(always)]
+    pub(crate) fn keep_short(&mut self, event: &ShortEvent, reply: &ShortReply)
+        requires { vec_len self.old.pairs < vec_capacity self.old.pairs }
+        ensures { self.new.pairs.items
+            ≡ self.old.pairs.items ++ (event_of event.now, reply_of reply.now) ∷ [] }
+    {
+        let entry = Entry::short(0, event, reply);
+        self.pairs.push_reserved(EventReply::of(entry));
+    }
 
-/// Reserves room for one pair more. The list is unchanged.
-#[inline(always)]
-fn reserve(list: &mut Vec<EventReply>) -> Result<(), CallError>
-    ensures room { OnOk result (vec_len list.new < vec_capacity list.new) }
-    ensures err { IfErr result (λ e. e ≡ CallError.NoRoom) }
-    ensures list { list.new.items ≡ list.old.items }
-{
-    list.reserve(1).map_err(|_| CallError::NoRoom)
+    /// Keeps an event and its reply, in the box if they need one.
+    fn keep_whole(&mut self, spare: &mut Option<Pair>, event: Event, reply: Reply)
+        requires room { vec_len self.old.pairs < vec_capacity self.old.pairs }
+        requires spare { IsSome spare.old }
+        ensures { self.new.pairs.items ≡ self.old.pairs.items ++ (event, reply) ∷ [] }
+    {
+        let entry = Entry::of(0, event, reply, spare);
+        self.pairs.push_reserved(EventReply::of(entry));
+    }
 }
 
 /// Copies an event.

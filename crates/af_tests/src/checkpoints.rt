@@ -37,7 +37,8 @@ fn takes<R: Wait>(
     first: u32,
     count: usize,
 ) -> bool {
-    match layer.checkpoint(rt, seats) {
+    let done = layer.lock(rt).checkpoint(seats);
+    match done {
         Ok(log) => are_starts(&log, first, count),
         Err(_) => false,
     }

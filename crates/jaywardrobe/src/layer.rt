@@ -17,7 +17,7 @@
 //! }
 //! ```
 pub use af_layer::{
-    AtCheckpoint, Book, CallError, CloseError, CloseFault, Closed, DriveError, DriveFault, Entry,
-    EventReply, Fresh, Gate, Layer, LayerGuard, OpenError, OpenGate, Origin, Seat, Turns, drive,
-    taken_logs_are_one, taken_parts_are_one,
+    AtCheckpoint, Book, BookFrom, CallError, CloseError, CloseFault, Closed, DriveError,
+    DriveFault, Entry, EventReply, Fresh, Gate, Layer, OpenError, OpenGate, Origin, Seat, Turns,
+    drive, taken_logs_are_one, taken_parts_are_one,
 };

@@ -49,7 +49,9 @@ pub fn time_of_run<R: Threads + Wait + Clock + Sync>(
         return Err(io::Error::other("no layer was opened"));
     };
     let pairs = events.saturating_add(1);
-    layer.reserve(rt, pairs.saturating_mul(threads as usize))?;
+    layer
+        .lock(rt)
+        .reserve(pairs.saturating_mul(threads as usize))?;
     let mut callers = Vec::new(alloc);
     for seat in seats {
         callers.push(caller_of(rt, &layer, seat, pairs)?)?;

@@ -4,5 +4,5 @@ use Rattle.af_layer.proofs.seat.Seat.call_whole.Goals as goal
 pub returns-clause-done : goal.returns-clause-done
 returns-clause-done c =
     let reply = c.in_ok-reply.reply in
-    let kept = c.keep_whole.ensures ∙ (λ i. c.reserve.ensures.list i ++ (c.in-Ok.ensures i, reply) ∷ []) in
+    let kept = c.keep_whole.ensures ∙ (λ i. c.reserve_one.ensures.list i ++ (c.in-Ok.ensures i, reply) ∷ []) in
     (reply, rw (← c.self.view_is) (λ i. record { number = c.self.inside.number; list = kept i }), rw (← c.self.view_is) c.in_ok-reply.ensures.done)
