@@ -6,10 +6,8 @@ pub mod Logs
 pub mod FirstSeats
 pub mod Origins
 pub mod SeatPositions
-pub mod Replies
 pub mod Scripts
 pub mod SendSync
 pub mod ShortSteps
-pub mod Starts
 pub mod Steps
 pub mod LogWalks

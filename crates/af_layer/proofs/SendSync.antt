@@ -3,6 +3,7 @@ use denote.RattleType.{RattleType}
 use denote.Param.Send.{IsSend, IsSync, sendable}
 use denote.Param.SendFields.{declared_send}
 use Rattle.std.proofs.Crossing.{crosses}
+use Rattle.af_steps.specs.contracts.engine.Engine as Engine
 use Rattle.af_steps.proofs.SendSync.{engine_send}
 use Rattle.af_base.proofs.events.Event.TheSendSync as event
 use Rattle.af_base.proofs.events.Reply.TheSendSync as reply
@@ -38,5 +39,5 @@ module _ (O : RattleType) (o : Origin.Ghosts O.Denot) where
   layer_sync = search (sendable, crosses, book_from_send) depth 20
 
 -- A shared engine may be used by several threads.
-pub shared_sync : IsSync Shared.the_row
+pub shared_sync : IsSync (Shared.the_row Engine.the_row)
 shared_sync = search (sendable, crosses, engine_send) depth 20

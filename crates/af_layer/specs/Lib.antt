@@ -5,7 +5,6 @@ pub mod Drive
 pub mod Log
 pub mod Room
 pub mod Seats
-pub mod Shared
 pub mod Short
 pub mod Taken
 pub mod Walk

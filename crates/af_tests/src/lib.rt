@@ -9,5 +9,3 @@ mod checkpoints;
 mod gates;
 #[cfg(test)]
 mod runs;
-#[cfg(test)]
-mod shared;

@@ -26,7 +26,6 @@ pub use Rattle.af_layer.specs.Calls
 pub use Rattle.af_layer.specs.Drive
 pub use Rattle.af_layer.specs.Log
 pub use Rattle.af_layer.specs.Seats
-pub use Rattle.af_layer.specs.Shared
 pub use Rattle.af_layer.specs.Taken
 pub use Rattle.af_report.specs.Check
 pub use Rattle.af_report.specs.Graph

@@ -112,7 +112,7 @@ fn time_of_shared<R: Threads + Wait + Clock + Sync>(
     threads: u32,
     events: usize,
 ) -> io::Result<u128> {
-    let shared = Shared::new(alloc)?;
+    let shared = Shared::of(Engine::new(alloc)?);
     let mut callers = start_callers(rt, alloc, &shared, threads)?;
     let start = Instant::now(rt)?;
     let is_done = call_beside(rt, &shared, callers.as_mut_slice(), events);
@@ -123,12 +123,12 @@ fn time_of_shared<R: Threads + Wait + Clock + Sync>(
 fn start_callers<R: Wait>(
     rt: &R,
     alloc: Global,
-    shared: &Shared,
+    shared: &Shared<Engine>,
     threads: u32,
 ) -> io::Result<Vec<Caller>> {
     let mut callers = Vec::new(alloc);
     for _ in 0..threads {
-        let Ok(pid) = shared.spawn(rt, USER, NOFILE, false) else {
+        let Ok(pid) = shared.lock(rt).spawn(USER, NOFILE, false) else {
             return Err(refusal());
         };
         callers.push(Caller {
@@ -142,7 +142,7 @@ fn start_callers<R: Wait>(
 /// Makes these calls from each caller in a thread of its own, and returns whether none was refused.
 fn call_beside<R: Threads + Wait + Sync>(
     rt: &R,
-    shared: &Shared,
+    shared: &Shared<Engine>,
     callers: &mut [Caller],
     events: usize,
 ) -> bool {
@@ -172,12 +172,12 @@ fn are_all_done(callers: &[Caller]) -> bool {
 }
 
 /// Makes these calls of an engine behind a lock, and returns whether none was refused.
-fn calls_shared<R: Wait>(rt: &R, shared: &Shared, pid: Pid, events: usize) -> bool {
+fn calls_shared<R: Wait>(rt: &R, shared: &Shared<Engine>, pid: Pid, events: usize) -> bool {
     for turn in 0..events {
         let is_done = if turn % 2 == 0 {
-            shared.open(rt, pid).is_ok()
+            shared.lock(rt).open(pid).is_ok()
         } else {
-            shared.close(rt, pid, Fd(0)).is_ok()
+            shared.lock(rt).close(pid, Fd(0)).is_ok()
         };
         if !is_done {
             return false;

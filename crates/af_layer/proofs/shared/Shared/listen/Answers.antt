@@ -1,9 +1,0 @@
-use Rattle.std.specs.Sync.Mutex.{mutex_guard_value}
-use Rattle.af_base.specs.declared.events.Step.TheVariants as step
-use Rattle.af_layer.proofs.Replies.{tells_done}
-use Rattle.af_layer.proofs.shared.Shared.listen.Goals as goal
-
-pub returns : goal.returns
-returns g c =
-    tells_done (mutex_guard_value c.lock-engine.result) c.deref_mut.result.now c.listen.new.self c.lock-engine.ensures c.deref_mut.ensures.value
-    c.args.pid (step.Listen c.args.on c.args.backlog) c.listen.result c.listen.ensures.done c.listen.ensures.refused
