@@ -17,7 +17,11 @@ use Rattle.af_base.proofs.Lookups.{none_some}
 use Rattle.af_base.proofs.SettledWorlds.{settles_none}
 use Rattle.af_collect.specs.StoreView.{StoreView}
 use Rattle.af_steps.specs.Outcome.{Does, Refuses, error_of, step_error}
-use Rattle.af_steps.specs.Rooms.{CannotFail, HasRoom}
+use Rattle.af_steps.specs.Rooms.{CannotFail}
+
+-- A test fits: so the step can fail.
+pub can-fail : {X : Type 0} (answered : Result X Errno) {w : World} {p : ℕ} {s : Step} (e : Errno) → refusal w p s ≡ Some e → CannotFail w p s → IsOk answered
+can-fail answered e is sure = absurd (none_some e (sym sure.fits ∙ is))
 
 -- An engine that shows `old`, and has this inside.
 module _ {inside old : Machine} (shown : inside ≡ old) (p : ℕ) (s : Step) where
@@ -35,13 +39,17 @@ module _ {inside old : Machine} (shown : inside ≡ old) (p : ℕ) (s : Step) wh
   pub does-nothing : (r : Reply) → refusal w p s ≡ None → answer w p s ≡ r → effect w p s ≡ w → IsSound w → Does old p s r old
   does-nothing r fits answers leads sound = subst (λ (m : Machine). Does m p s r m) shown (fits, sym answers, subst (λ v. Settles v w) (sym leads) (settles_none w sound.settled), (refl, refl, refl))
 
+  -- The step cannot fail in the world inside either.
+  sure-inside : CannotFail old.world p s → CannotFail w p s
+  sure-inside sure = subst (λ (m : Machine). CannotFail m.world p s) (sym shown) sure
+
   -- A test fits: so the step can fail.
   pub not-refused : {X : Type 0} (answered : Result X Errno) (e : Errno) → refusal w p s ≡ Some e → CannotFail old.world p s → IsOk answered
-  not-refused answered e is sure = absurd (none_some e (sym sure.0 ∙ sym (ap (λ (m : Machine). refusal m.world p s) shown) ∙ is))
+  not-refused answered e is sure = can-fail answered e is (sure-inside sure)
 
-  -- Room was refused, where there was none: so the step can fail.
-  pub not-starved : {X A E : Type 0} (answered : Result X Errno) {asked : Result A E} {e : E} → asked ≡ Err e → (HasRoom w p s → IsOk asked) → CannotFail old.world p s → IsOk answered
-  not-starved answered is ready sure = absurd (false≢true (subst IsOk is (ready (subst (λ (m : Machine). HasRoom m.world p s) (sym shown) sure.1))))
+  -- What the step asked for was refused: so it can fail.
+  pub not-starved : {X A E : Type 0} (answered : Result X Errno) {asked : Result A E} {e : E} → asked ≡ Err e → (CannotFail w p s → IsOk asked) → CannotFail old.world p s → IsOk answered
+  not-starved answered is ready sure = absurd (false≢true (subst IsOk is (ready (sure-inside sure))))
 
   module _ {X : Type 0} (new : Machine) (answered : Result X Errno) (same : new ≡ old) where
     -- The error that it answers is the one that can come.

@@ -1,6 +1,6 @@
 //! Steps that send and receive.
 ghost use Rattle.std.specs.Prelude.{◌≡◌, ◌≤◌, ◌<◌, [], Some, None, IfOk, IfErr, OnOk, length};
-ghost use Rattle.std.specs.Prelude.{IfNone, IfSome, filter_map, nat_le, nat_lt};
+ghost use Rattle.std.specs.Prelude.{◌-◌, IfNone, IfSome, IsOk, filter_map, nat_le, nat_lt, true};
 ghost use Rattle.std.specs.FinMap as map;
 ghost use Rattle.af_base.specs.Changes.{push_message};
 ghost use Rattle.af_base.specs.Pass.{SamePass};
@@ -13,6 +13,7 @@ ghost use Rattle.af_collect.specs.StoreView.{room_at};
 ghost use Rattle.af_steps.specs.Found.{HasEnd, HasMessage};
 ghost use Rattle.af_steps.specs.Outcome.{Does, Refuses, got_reply, step_error};
 ghost use Rattle.af_steps.specs.MessageRoom.{HasRoomForMessage, message_in, room_row};
+ghost use Rattle.af_steps.specs.Rooms.{CannotFail, HasOpenFrom};
 
 use crate::engine::Engine;
 use crate::lookups::socket_on;
@@ -25,7 +26,7 @@ use af_base::limits::{MAX_BYTES, SCM_MAX_FD};
 use af_collect::Store;
 use af_desc::Socket;
 use af_queue::{Attached, Msg, Taken};
-use af_table::Process;
+use af_table::{FreeFds, Process};
 use smallvec::SmallVec;
 use std::alloc::AllocError;
 
@@ -171,8 +172,9 @@ impl Engine {
     /// Receives at most `max_bytes` bytes and `max_fds` descriptors (recvmsg(2)). A packet's bytes
     /// beyond `max_bytes` are dropped (recvmsg(2), MSG_TRUNC); a stream's wait for the next
     /// receive. Descriptors beyond `max_fds` or the free numbers are closed (unix(7), SCM_RIGHTS;
-    /// MSG_CTRUNC). Refused, in this order: ESRCH, EBADF, ENOTSOCK, EINVAL (`max_bytes` is not 1 to
-    /// 65,536), ENOTCONN, EAGAIN, ENOMEM.
+    /// MSG_CTRUNC). Needs no memory for a packet that brings no descriptors, or up to 4 where the
+    /// highest below the process's limit is open. Refused, in this order: ESRCH, EBADF, ENOTSOCK,
+    /// EINVAL (`max_bytes` is not 1 to 65,536), ENOTCONN, EAGAIN, ENOMEM.
     // Kept apart: DECISIONS.md, "Answers are zeroed".
     #[inline(never)]
     pub fn recv(
@@ -186,8 +188,10 @@ impl Engine {
             Does self.old pid (Step.Recv on max_bytes max_fds) (got_reply got) self.new) }
         ensures refused { IfErr result (λ e.
             Refuses self.old pid (Step.Recv on max_bytes max_fds) e self.new) }
+        ensures succeeds { CannotFail self.old.world pid (Step.Recv on max_bytes max_fds)
+            → IsOk result }
     {
-        let mut fds = Fds::new(self.alloc);
+        let mut fds = FreeFds::new(self.alloc);
         let mut taken = Taken::nothing(self.alloc);
         let Some(file) = prepare_receive(&mut self.store, pid, on, max_bytes, max_fds, &mut fds)?
         else {
@@ -218,7 +222,7 @@ impl Engine {
         ensures refused { IfErr result (λ e.
             Refuses self.old pid (Step.Peek on max_bytes max_fds) e self.new) }
     {
-        let mut fds = Fds::new(self.alloc);
+        let mut fds = FreeFds::new(self.alloc);
         let Some(file) = prepare_receive(&mut self.store, pid, on, max_bytes, max_fds, &mut fds)?
         else {
             return Ok(Received::End);
@@ -322,22 +326,24 @@ fn prepare_receive(
     on: Fd,
     max_bytes: u32,
     max_fds: u32,
-    fds: &mut Fds,
+    fds: &mut FreeFds,
 ) -> Result<Option<FileRef>, Errno>
-    requires { fds.old ≡ [] }
+    requires { fds.old.items ≡ [] }
     ensures world { store.new.world ≡ store.old.world }
     ensures pass { store.new.pass ≡ store.old.pass }
     ensures since { store.new.since ≡ store.old.since }
     ensures fits { OnOk result
         (refusal store.old.world pid (Step.Recv on max_bytes max_fds) ≡ None) }
     ensures message { IfOk result (λ found. IfSome found (λ file.
-        HasMessage store.old.world pid on max_bytes max_fds file fds.new)) }
+        HasMessage store.old.world pid on max_bytes max_fds file fds.new.items)) }
     ensures can { IfOk result (λ found. IfSome found (λ file.
-        CanReceive store.new file max_bytes pid fds.new)) }
+        CanReceive store.new file max_bytes pid fds.new.items)) }
     ensures ended { IfOk result (λ found. IfNone found
         (HasEnd store.old.world pid on max_bytes max_fds)) }
     ensures refused { IfErr result (λ e.
         step_error store.old.world pid (Step.Recv on max_bytes max_fds) ≡ Some e) }
+    ensures succeeds { CannotFail store.old.world pid (Step.Recv on max_bytes max_fds)
+        → IsOk result }
 {
     let Some(source) = find_message(store, pid, on, max_bytes, max_fds, fds)? else {
         return Ok(None);
@@ -358,19 +364,24 @@ fn find_message(
     on: Fd,
     max_bytes: u32,
     max_fds: u32,
-    fds: &mut Fds,
+    fds: &mut FreeFds,
 ) -> Result<Option<ReceivingSocket>, Errno>
-    requires { fds.old ≡ [] }
+    requires { fds.old.items ≡ [] }
     ensures fits { OnOk result
         (refusal store.now.world pid (Step.Recv on max_bytes max_fds) ≡ None) }
     ensures message { IfOk result (λ found. IfSome found (λ s.
-        HasMessage store.now.world pid on max_bytes max_fds s.file fds.new)) }
+        HasMessage store.now.world pid on max_bytes max_fds s.file fds.new.items)) }
     ensures room { IfOk result (λ found. IfSome found (λ s. s.has_room
         ≡ nat_le (process_at store.now.world pid).limit (room_at store.now pid))) }
+    ensures open { IfOk result (λ found. IfSome found (λ s.
+        HasOpenFrom store.now.world pid ((process_at store.now.world pid).limit - 1)
+        → s.has_room ≡ true)) }
     ensures ended { IfOk result (λ found. IfNone found
         (HasEnd store.now.world pid on max_bytes max_fds)) }
     ensures refused { IfErr result (λ e.
         step_error store.now.world pid (Step.Recv on max_bytes max_fds) ≡ Some e) }
+    ensures succeeds { CannotFail store.now.world pid (Step.Recv on max_bytes max_fds)
+        → IsOk result }
 {
     let (process, file, socket) = socket_on(store, pid, on)?;
     check_receive(&socket, max_bytes)?;
@@ -394,15 +405,16 @@ fn make_room(
     store: &mut Store,
     source: &ReceivingSocket,
     pid: Pid,
-    fds: &Fds,
+    fds: &FreeFds,
 ) -> Result<(), AllocError>
     requires { source.now.has_room
         ≡ nat_le (process_at store.old.world pid).limit (room_at store.old pid) }
     ensures world { store.new.world ≡ store.old.world }
     ensures pass { store.new.pass ≡ store.old.pass }
     ensures since { store.new.since ≡ store.old.since }
-    ensures row { OnOk result
-        (0 < length fds.now → (process_at store.old.world pid).limit ≤ room_at store.new pid) }
+    ensures row { OnOk result (0 < length fds.now.items
+        → (process_at store.old.world pid).limit ≤ room_at store.new pid) }
+    ensures succeeds { (0 < length fds.now.items → source.now.has_room ≡ true) → IsOk result }
 {
     if source.has_room {
         return Ok(());
@@ -429,15 +441,15 @@ pub(crate) fn check_receive(socket: &Socket, max_bytes: u32) -> Result<(), Errno
 /// Returns the answer to a receive or a peek, whose first files were installed at these
 /// descriptors.
 #[inline(always)]
-fn receive_answer(taken: Taken, fds: Fds) -> Received
-    ensures { result ≡ Received.Got taken.message.bytes fds taken.trunc
-        (nat_lt (length fds) (length taken.message.attached)) }
+fn receive_answer(taken: Taken, fds: FreeFds) -> Received
+    ensures { result ≡ Received.Got taken.message.bytes fds.items taken.trunc
+        (nat_lt (length fds.items) (length taken.message.attached)) }
 {
     let trunc = taken.trunc();
     let ctrunc = taken.attached().len() > fds.len();
     Received::Got {
         bytes: taken.into_bytes(),
-        fds,
+        fds: Fds::of_small(fds),
         trunc,
         ctrunc,
     }

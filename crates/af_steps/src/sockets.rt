@@ -92,8 +92,8 @@ impl Engine {
     }
 
     /// Accepts the embryo that waits longest at a listener (accept(2)). Returns the embryo's new
-    /// descriptor, the process's lowest free one. Refused, in this order: ESRCH, EBADF, ENOTSOCK,
-    /// EINVAL, EAGAIN, EMFILE, ENOMEM.
+    /// descriptor, the process's lowest free one. Needs no memory where a higher one is open.
+    /// Refused, in this order: ESRCH, EBADF, ENOTSOCK, EINVAL, EAGAIN, EMFILE, ENOMEM.
     pub fn accept(&mut self, pid: Pid, on: Fd) -> Result<Fd, Errno>
         ensures done { IfOk result (λ fd.
             Does self.old pid (Step.Accept on) (Reply.Fd fd) self.new) }

@@ -42,8 +42,8 @@ impl Engine {
         Ok(fd)
     }
 
-    /// Duplicates a descriptor (dup(2)). Returns the new one, the process's lowest free one.
-    /// Refused, in this order: ESRCH, EBADF, EMFILE, ENOMEM.
+    /// Duplicates a descriptor (dup(2)). Returns the new one, the process's lowest free one. Needs
+    /// no memory where a higher one is open. Refused, in this order: ESRCH, EBADF, EMFILE, ENOMEM.
     pub fn dup(&mut self, pid: Pid, from: Fd) -> Result<Fd, Errno>
         ensures done { IfOk result (λ fd.
             Does self.old pid (Step.Dup from) (Reply.Fd fd) self.new) }
@@ -62,8 +62,9 @@ impl Engine {
     }
 
     /// Makes the descriptor `to` refer to the file of `from` (dup2(2)). If `to` is open, it is
-    /// closed first. Where both are one, nothing changes, and no memory is needed. Returns `to`.
-    /// Refused, in this order: ESRCH, EBADF, ENOMEM.
+    /// closed first. Where both are one, nothing changes. Returns `to`. Needs no memory where `to`
+    /// or a higher descriptor is open, or both are one. Refused, in this order: ESRCH, EBADF,
+    /// ENOMEM.
     pub fn dup2(&mut self, pid: Pid, from: Fd, to: Fd) -> Result<Fd, Errno>
         ensures done { IfOk result (λ fd.
             Does self.old pid (Step.Dup2 from to) (Reply.Fd fd) self.new) }

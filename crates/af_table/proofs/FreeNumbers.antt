@@ -3,7 +3,7 @@ use Rattle.std.proofs.Common.{◌≡◌, ℕ, ◌+◌, ◌-◌, ◌<◌, ◌≤�
 use Rattle.std.specs.Prelude.{Option, Some, None, not, is_some, IfSome, IfNone, slice_get}
 use Rattle.std.specs.List.{range_with_len}
 use Rattle.std.specs.FinMap as map
-use Rattle.std.proofs.lemmas.List.{append-nil, append_assoc, take-append-le}
+use Rattle.std.proofs.lemmas.List.{append-nil, append_assoc, length-append, length-take, take-append-le}
 use Rattle.af_base.specs.World.{Process}
 use Rattle.af_base.specs.Table.{free_numbers, lowest_free}
 use Rattle.af_table.specs.Bits.{is_taken}
@@ -87,8 +87,16 @@ free_pushed p ns k n all next = append_assoc ns (n ∷ []) (free_from (n + 1) p)
 pub free_enough : (p : Process) (ns : List ℕ) (k count : ℕ) → ns ++ free_from k p ≡ free_numbers p → length ns ≡ count → ns ≡ lowest_free count p
 free_enough p ns k count all full = sym (ap (take count) (sym all) ∙ take-append-le count ns (free_from k p) (omega arith) ∙ take_all count ns (omega arith))
 
+-- One found more is among them.
+pub free_more : (p : Process) (ns : List ℕ) (k n count : ℕ) → ns ++ free_from k p ≡ free_numbers p → free_from k p ≡ n ∷ free_from (n + 1) p → length ns < count → length ns < length (lowest_free count p)
+free_more p ns k n count all next less =
+    let many = sym (length-append ns (free_from k p)) ∙ ap length all in
+    let more = ap length next in
+    let most = length-take count (free_numbers p) in
+    omega (arith, many, more, most, less)
+
 -- All, if there are no others.
 pub free_short : (p : Process) (ns : List ℕ) (k count : ℕ) → ns ++ free_from k p ≡ free_numbers p → free_from k p ≡ [] → length ns ≤ count → ns ≡ lowest_free count p
 free_short p ns k count all none fits = sym (ap (take count) (sym all ∙ ap (λ l. ns ++ l) none ∙ append-nil ns) ∙ take_all count ns fits)
 
-pub ruleset free_lists = (free_all, free_head, free_two, free_no_two, free_only_one, free_pushed, free_enough, free_short)
+pub ruleset free_lists = (free_all, free_head, free_two, free_no_two, free_only_one, free_pushed, free_enough, free_more, free_short)

@@ -7,5 +7,5 @@ mod listed;
 mod process;
 mod procs;
 
-pub use process::Process;
+pub use process::{FreeFds, Process};
 pub use procs::Procs;

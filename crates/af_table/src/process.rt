@@ -1,7 +1,7 @@
 //! A process with its table.
 ghost use Rattle.std.specs.Prelude.{◌≡◌, ℕ, ◌+◌, ◌-◌, ◌≤◌, ◌<◌, [], ◌∷◌, length, slice_get, IfSome};
 ghost use Rattle.std.specs.Prelude.{IsTrue, IfNone, IfOk, OnOk, OnErr, IsOk, None, false, nat_le};
-ghost use Rattle.std.specs.Prelude.{nat_lt, true};
+ghost use Rattle.std.specs.Prelude.{◌++◌, nat_lt, true};
 ghost use Rattle.std.specs.FinMap as map;
 ghost use Rattle.af_base.specs.Changes.{installed, limited, taken_out};
 ghost use Rattle.af_base.specs.Table.{free_numbers, lowest_free};
@@ -11,11 +11,14 @@ ghost use Rattle.af_table.specs.Rooms.{IsOpenFrom};
 
 use crate::bits::Bits;
 use af_base::ids::{Fd, FileRef, Ino, Uid};
-use af_base::items::Fds;
 use af_base::limits::MAX_NOFILE;
+use smallvec::SmallVec;
 use std::alloc::{AllocError, Global};
 use std::marker::Model;
 use std::mem;
+
+/// Free descriptors of a process, rising: up to 4 lie in the value.
+pub type FreeFds = SmallVec<Fd, 4>;
 
 /// A process: bit n says whether descriptor n is open, and slot n has its file if it is. The slot
 /// of a free descriptor is blank: its number is 0, which is no file's. So most look-ups need no
@@ -272,15 +275,15 @@ impl Process {
     /// fewer. Takes memory only for more than fit in the value.
     #[inline(always)]
     #[tactic(auto, using(crate::proofs::FreeNumbers::free_lists))]
-    pub fn lowest_free(&self, count: usize, fds: &mut Fds) -> Result<(), AllocError>
-        requires empty { fds.old ≡ [] }
-        ensures value { OnOk result (fds.new ≡ lowest_free count self.now.process) }
-        ensures none { length (lowest_free count self.now.process) ≡ 0 → IsOk result }
+    pub fn lowest_free(&self, count: usize, fds: &mut FreeFds) -> Result<(), AllocError>
+        requires empty { fds.old.items ≡ [] }
+        ensures value { OnOk result (fds.new.items ≡ lowest_free count self.now.process) }
+        ensures succeeds { length (lowest_free count self.now.process) ≤ 4 → IsOk result }
     {
         // Most messages bring one file.
         if count == 1 {
             if let Some(fd) = self.lowest() {
-                fds.push(fd)?;
+                push_fd(fds, fd)?;
             }
             return Ok(());
         }
@@ -289,7 +292,7 @@ impl Process {
             let Some(fd) = self.next_free(from) else {
                 return Ok(());
             };
-            fds.push(fd)?;
+            push_fd(fds, fd)?;
             from = fd.0 + 1;
         }
         Ok(())
@@ -329,6 +332,19 @@ impl Process {
         let behind = self.taken.next(first, end, false).unwrap_or(end);
         &self.slots[first as usize..behind as usize]
     }
+}
+
+/// Appends a descriptor. Takes memory only if it does not fit.
+#[inline(always)]
+fn push_fd(fds: &mut FreeFds, fd: Fd) -> Result<(), AllocError>
+    ensures ok { OnOk result (fds.new.items ≡ fds.old.items ++ fd ∷ []) }
+    ensures succeeds { length fds.old.items < 4 → IsOk result }
+{
+    if fds.len() == fds.capacity() {
+        fds.reserve(1)?;
+    }
+    fds.push_reserved(fd);
+    Ok(())
 }
 
 /// Returns a blank slot.

@@ -6,6 +6,6 @@ use Rattle.af_table.proofs.process.Process.lowest_free.Given as goal
 -- The numbers found and those left are all that are free.
 abbrev pub invariant-loop : goal.invariant-loop
 invariant-loop l = record {
-  all : l.fds ++ free_from l.from l.self.process ≡ free_numbers l.self.process;
-  many : length l.fds ≡ l.counter;
+  all : l.fds.items ++ free_from l.from l.self.process ≡ free_numbers l.self.process;
+  many : length l.fds.items ≡ l.counter;
 }
