@@ -1,6 +1,6 @@
 -- The lists of files that were freed, and of sockets whose readiness may have changed, since both
 -- were last emptied. Definitions that name no manual page are this project's own.
-use Rattle.std.specs.Prelude.{◌≡◌, ◌+◌, ℕ, Bool, true, List, IsTrue, is_some, nat_lt, if◌then◌else◌}
+use Rattle.std.specs.Prelude.{◌≡◌, ◌+◌, ◌≤◌, ℕ, Bool, true, List, IsTrue, is_some, nat_lt, if◌then◌else◌}
 use Rattle.std.specs.Option.{option_and_then}
 use Rattle.std.specs.FinMap as map
 use Rattle.af_base.specs.declared.events.State.TheVariants as state
@@ -25,6 +25,10 @@ AreReleased live next since told = (f : ℕ)
 -- Whether the number is a socket's among these files.
 abbrev pub is_socket_in : Map File → ℕ → Bool
 is_socket_in files f = is_some (option_and_then socket_of (map.get files f))
+
+-- Each number in the list is there once, and is a live socket's.
+abbrev pub AreSocketsOnce : Map File → List ℕ → Type 0
+AreSocketsOnce files told = (f : ℕ) → count_in f told ≤ (if is_socket_in files f then 1 else 0)
 
 -- A socket that is not in the list has the face that it had then.
 abbrev pub AreChanged : Map File → Since → List ℕ → Type 0

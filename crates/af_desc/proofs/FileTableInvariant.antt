@@ -12,7 +12,7 @@ use Rattle.af_base.specs.Changes.{with_name}
 use Rattle.af_base.specs.Counts.{count_in}
 use Rattle.af_base.specs.Ready.{face_in, face_of}
 use Rattle.af_base.specs.Refusals.{socket_of}
-use Rattle.af_base.specs.Told.{AreChanged, AreReleased}
+use Rattle.af_base.specs.Told.{is_socket_in, AreChanged, AreReleased, AreSocketsOnce}
 use Rattle.af_base.specs.World.{File, Map, Message, Socket}
 use Rattle.af_base.proofs.ExactLists.{just-empty}
 use Rattle.af_base.proofs.Lookups.{insert-here, insert-other, none_some, remove-here, remove-other, same_or_not, some_same}
@@ -26,9 +26,17 @@ use Rattle.af_queue.specs.declared.chain.Node.{Node}
 use Rattle.af_queue.proofs.Chains.{same_queue}
 use Rattle.af_desc.specs.declared.file_row.FileRow.{FileRow}
 use Rattle.af_desc.specs.FileTableView.{counts_of, file_in, file_of, files_of, marks_of, refilled, AreChained}
-use Rattle.af_desc.specs.Told.{cleaned, since_of, AreTold, FileTableInvariant, IsDirtyList, ToldListsView}
-use Rattle.af_desc.proofs.FileTableView.{chains_changed, chains_from, chains_none, chains_put, chains_roomed, chains_stay, chains_taken, file_is, stays}
+use Rattle.af_desc.specs.Told.{cleaned, is_listed, since_of, AreTold, FileTableInvariant, IsDirtyList, ToldListsView}
+use Rattle.af_desc.proofs.FileTableView.{chains_changed, chains_from, chains_none, chains_put, chains_roomed, chains_stay, chains_taken, file_is, socket_kept, stays}
 use Rattle.af_desc.proofs.ToldLists.{comes-last, goes-last, listed-alike, listed-few, listed-most, listed-new, listed-same, lived, released-come, released-gone, released-same}
+
+-- What is dirty only if it is a socket is listed if it is dirty.
+twice : (asked some dirty : Bool) → dirty ≡ (asked && some) → (dirty && some) ≡ dirty
+twice asked some dirty is = ap (λ b. b && some) is ∙ by asked some ∙ sym is where
+  by : (a b : Bool) → ((a && b) && b) ≡ (a && b)
+  by false b = refl
+  by true false = refl
+  by true true = refl
 
 -- A table of files with its invariant.
 module _ {nodes : Slab Node} {rows : OrderedSlabView FileRow} {told : ToldListsView} {files : Map File} {then : ℕ} {room : ℕ} (h : FileTableInvariant nodes rows told files then room) where
@@ -106,7 +114,7 @@ module _ {nodes : Slab Node} {rows : OrderedSlabView FileRow} {told : ToldListsV
     shown : (t : Slab Node) (y : FileRow) → AreChained t (map.insert rows.values f y) → ((g : ℕ) (z : FileRow) → nat_eq g f ≡ false → map.get rows.values g ≡ Some z → file_in t z ≡ file_in nodes z)
         → y.dirty ≡ x.dirty → is_some y.kind ≡ is_some x.kind → face_of (file_in t y) ≡ face_of (file_in nodes x) → FileTableInvariant t (with_value rows f y) told files then room
     shown t y chained others dirty kind face =
-        written t y told.changed chained others (listed-same rows.values told.changed f x at h.are_told.listed y dirty)
+        written t y told.changed chained others (listed-same rows.values told.changed f x at h.are_told.listed y (λ i. dirty i && kind i))
         (λ asked socket not. ap Some face ∙ h.are_told.same asked f x at (sym kind ∙ socket) (sym dirty ∙ not))
 
     -- A row that has its chain still.
@@ -151,13 +159,13 @@ module _ {nodes : Slab Node} {rows : OrderedSlabView FileRow} {told : ToldListsV
       kept-moved rest = kept-silent (ap (λ r. r.dirty) rest) (ap (λ r. is_some r.kind) rest)
 
     -- A row that changed, and is in the list then.
-    module _ (t : Slab Node) (z y : FileRow) (lists : ToldListsView) (dirty : x.dirty ≡ z.dirty) (row : y ≡ record z { dirty = y.dirty }) (sets : told.tells_changed ≡ true → is_some z.kind ≡ true → y.dirty ≡ true)
-        (listed : (m : Map FileRow) (x : FileRow) → map.get m f ≡ Some x → x.dirty ≡ z.dirty → IsDirtyList m told.changed → IsDirtyList (map.insert m f y) lists.changed) (rest : lists ≡ record told { changed = lists.changed }) where
+    module _ (t : Slab Node) (z y : FileRow) (lists : ToldListsView) (like : is_listed x ≡ is_listed z) (row : y ≡ record z { dirty = y.dirty }) (sets : told.tells_changed ≡ true → is_some z.kind ≡ true → y.dirty ≡ true)
+        (listed : (m : Map FileRow) (x : FileRow) → map.get m f ≡ Some x → is_listed x ≡ is_listed z → IsDirtyList m told.changed → IsDirtyList (map.insert m f y) lists.changed) (rest : lists ≡ record told { changed = lists.changed }) where
       -- Its chain is right, and other files are as they were.
       kept-listed : AreChained t (map.insert rows.values f y) → ((g : ℕ) (z : FileRow) → nat_eq g f ≡ false → map.get rows.values g ≡ Some z → file_in t z ≡ file_in nodes z) → FileTableInvariant t (with_value rows f y) lists files then room
       kept-listed chained others =
           subst (λ l. FileTableInvariant t (with_value rows f y) l files then room) (sym rest)
-          (written t y lists.changed chained others (listed rows.values x at dirty h.are_told.listed)
+          (written t y lists.changed chained others (listed rows.values x at like h.are_told.listed)
           (λ asked socket not. absurd (false≢true (sym not ∙ sets asked (sym (ap (λ r. is_some r.kind) row) ∙ socket)))))
 
       -- Its messages changed.
@@ -169,19 +177,19 @@ module _ {nodes : Slab Node} {rows : OrderedSlabView FileRow} {told : ToldListsV
           kept-listed (chained-there t y mine alike) (others-there t y mine alike)
 
     -- A row whose kind changed, and that is in the list then.
-    pub kept-kind : (z y : FileRow) (lists : ToldListsView) → z.chain ≡ x.chain → x.dirty ≡ z.dirty → y ≡ record z { dirty = y.dirty } → (told.tells_changed ≡ true → is_some z.kind ≡ true → y.dirty ≡ true)
-        → ((m : Map FileRow) (x : FileRow) → map.get m f ≡ Some x → x.dirty ≡ z.dirty → IsDirtyList m told.changed → IsDirtyList (map.insert m f y) lists.changed) → lists ≡ record told { changed = lists.changed }
+    pub kept-kind : (z y : FileRow) (lists : ToldListsView) (g : Socket → Socket) → z.chain ≡ x.chain → z.dirty ≡ x.dirty → z.kind ≡ option_map g x.kind → y ≡ record z { dirty = y.dirty } → (told.tells_changed ≡ true → is_some z.kind ≡ true → y.dirty ≡ true)
+        → ((m : Map FileRow) (x : FileRow) → map.get m f ≡ Some x → is_listed x ≡ is_listed z → IsDirtyList m told.changed → IsDirtyList (map.insert m f y) lists.changed) → lists ≡ record told { changed = lists.changed }
         → FileTableInvariant nodes (with_value rows f y) lists files then room
-    kept-kind z y lists chain dirty row sets listed rest = kept-listed nodes z y lists dirty row sets listed rest (chained-still y (ap (λ r. r.chain) row ∙ chain)) (λ g q off is. refl)
+    kept-kind z y lists g chain dirty kind row sets listed rest = kept-listed nodes z y lists (sym (λ i. dirty i && (ap is_some kind ∙ socket_kept g x.kind) i)) row sets listed rest (chained-still y (ap (λ r. r.chain) row ∙ chain)) (λ g q off is. refl)
 
     -- A row that is in the list, and changes then.
     module _ (t : Slab Node) (z y : FileRow) (lists : ToldListsView) (row : z ≡ record x { dirty = z.dirty }) (sets : told.tells_changed ≡ true → is_some x.kind ≡ true → z.dirty ≡ true)
-        (listed : (m : Map FileRow) (r : FileRow) → map.get m f ≡ Some r → r.dirty ≡ x.dirty → IsDirtyList m told.changed → IsDirtyList (map.insert m f z) lists.changed) (rest : lists ≡ record told { changed = lists.changed }) (dirty : y.dirty ≡ z.dirty) (socket : is_some y.kind ≡ is_some x.kind) where
+        (listed : (m : Map FileRow) (r : FileRow) → map.get m f ≡ Some r → is_listed r ≡ is_listed x → IsDirtyList m told.changed → IsDirtyList (map.insert m f z) lists.changed) (rest : lists ≡ record told { changed = lists.changed }) (dirty : y.dirty ≡ z.dirty) (socket : is_some y.kind ≡ is_some x.kind) where
       -- Its chain is right, and other files are as they were.
       kept-then : AreChained t (map.insert rows.values f y) → ((g : ℕ) (z : FileRow) → nat_eq g f ≡ false → map.get rows.values g ≡ Some z → file_in t z ≡ file_in nodes z) → FileTableInvariant t (with_value rows f y) lists files then room
       kept-then chained others =
           subst (λ l. FileTableInvariant t (with_value rows f y) l files then room) (sym rest)
-          (written t y lists.changed chained others (listed-alike rows.values lists.changed f z y dirty (listed rows.values x at refl h.are_told.listed))
+          (written t y lists.changed chained others (listed-alike rows.values lists.changed f z y (λ i. dirty i && (socket ∙ sym (ap (λ r. is_some r.kind) row)) i) (listed rows.values x at refl h.are_told.listed))
           (λ asked some not. absurd (false≢true (sym not ∙ dirty ∙ sets asked (sym socket ∙ some)))))
 
       -- Its messages changed.
@@ -192,7 +200,7 @@ module _ {nodes : Slab Node} {rows : OrderedSlabView FileRow} {told : ToldListsV
 
     -- A row that is in the list, and whose kind changes then.
     pub listed-kind : (z y : FileRow) (lists : ToldListsView) → z ≡ record x { dirty = z.dirty } → (told.tells_changed ≡ true → is_some x.kind ≡ true → z.dirty ≡ true)
-        → ((m : Map FileRow) (r : FileRow) → map.get m f ≡ Some r → r.dirty ≡ x.dirty → IsDirtyList m told.changed → IsDirtyList (map.insert m f z) lists.changed) → lists ≡ record told { changed = lists.changed } → y.dirty ≡ z.dirty → is_some y.kind ≡ is_some x.kind → y.chain ≡ z.chain
+        → ((m : Map FileRow) (r : FileRow) → map.get m f ≡ Some r → is_listed r ≡ is_listed x → IsDirtyList m told.changed → IsDirtyList (map.insert m f z) lists.changed) → lists ≡ record told { changed = lists.changed } → y.dirty ≡ z.dirty → is_some y.kind ≡ is_some x.kind → y.chain ≡ z.chain
         → FileTableInvariant nodes (with_value rows f y) lists files then room
     listed-kind z y lists row sets listed rest dirty socket chain = kept-then nodes z y lists row sets listed rest dirty socket (chained-still y (chain ∙ ap (λ r. r.chain) row)) (λ g q off is. refl)
 
@@ -227,7 +235,7 @@ module _ {nodes : Slab Node} {rows : OrderedSlabView FileRow} {told : ToldListsV
       subst (λ l. FileTableInvariant nodes after l files then (room - 1)) (sym rest) (subst (λ r. FileTableInvariant nodes r (record told { changed = cond x.dirty (told.changed ++ f ∷ []) told.changed }) files then (room - 1)) (sym is) (record {
         chained = chains_put nodes rows.values f x none h.chained;
         are_told = record {
-          listed = listed-new rows.values told.changed f x new h.are_told.listed;
+          listed = listed-new rows.values told.changed f x new h.are_told.listed x.dirty (twice told.tells_changed (is_some x.kind) x.dirty dirty);
           same = λ asked g z at socket not. elim (same_or_not g f) [
             | inl here ↦
                 let it = some_same x z (sym (ap (map.get (map.insert rows.values f x)) here ∙ insert-here rows.values f x) ∙ at) in
@@ -247,7 +255,7 @@ pub kept-none : (nodes : Slab Node) (rows : OrderedSlabView FileRow) (told : Tol
 kept-none nodes rows told files then none empty off mute next = record {
   chained = chains_none nodes rows.values none;
   are_told = record {
-    listed = just-empty (λ (r : FileRow). r.dirty) rows.values told.changed none empty;
+    listed = just-empty is_listed rows.values told.changed none empty;
     same = λ asked. absurd (false≢true (sym off ∙ asked));
     later = omega (arith, next);
     below = λ f high. ap (λ m. map.contains_key m f) none ∙ ap is_some (map.get-empty nat_cmp f);
@@ -336,16 +344,30 @@ changed-told nodes rows told files then h asked f socket none = by (map.get rows
   kind ms None e = e
   kind ms (Some s) e = refl
 
-  clean : (b : Bool) → ◌≡◌ {A = ℕ} 0 (cond b 1 0) → b ≡ false
-  clean true e = absurd (omega (arith, e))
-  clean false e = refl
+  clean : (dirty some : Bool) → some ≡ true → ◌≡◌ {A = ℕ} 0 (cond (dirty && some) 1 0) → dirty ≡ false
+  clean true some is e = absurd (omega (arith, e, ap {B = ℕ} (λ b. cond b 1 0) is))
+  clean false some is e = refl
 
   by : (o : Option FileRow) → map.get rows.values f ≡ o → face_in (files_of nodes rows.values) f ≡ face_in files f
   by None at = absurd (false≢true (sym (ap (λ z. is_some (option_and_then socket_of z)) (q ∙ ap (option_map (file_in nodes)) at)) ∙ socket))
   by (Some x) at =
       let file = q ∙ ap (option_map (file_in nodes)) at in
-      ap (option_map face_of) file
-      ∙ h.same asked f x at (kind _ x.kind (sym (ap (λ z. is_some (option_and_then socket_of z)) file) ∙ socket)) (clean x.dirty (sym none ∙ h.listed f ∙ ap (λ o. cond (option_map_or (λ (r : FileRow). r.dirty) o false) 1 0) at))
+      let some = kind _ x.kind (sym (ap (λ z. is_some (option_and_then socket_of z)) file) ∙ socket) in
+      ap (option_map face_of) file ∙ h.same asked f x at some (clean x.dirty _ some (sym none ∙ h.listed f ∙ ap (λ o. cond (option_map_or is_listed o false) 1 0) at))
+
+-- Each listed socket is there once.
+pub once-told : (nodes : Slab Node) (rows : Map FileRow) (fs : List ℕ) → IsDirtyList rows fs → AreSocketsOnce (files_of nodes rows) fs
+once-told nodes rows fs h f =
+    subst (λ n. n ≤ cond (is_socket_in (files_of nodes rows) f) 1 0) (sym (h f))
+    (subst (λ o. cond (option_map_or is_listed (map.get rows f) false) 1 0 ≤ cond (is_some (option_and_then socket_of o)) 1 0) (sym (part_get (file_in nodes) rows f)) (by (map.get rows f))) where
+      own : (dirty : Bool) (ms : List Message) (o : Option Socket) → ◌≤◌ (cond (dirty && is_some o) 1 0) (cond (is_some (socket_of (file_of (option_map (refilled ms) o)))) 1 0)
+      own false ms o = omega arith
+      own true ms None = omega arith
+      own true ms (Some s) = omega arith
+
+      by : (o : Option FileRow) → ◌≤◌ (cond (option_map_or is_listed o false) 1 0) (cond (is_some (option_and_then socket_of (option_map (file_in nodes) o))) 1 0)
+      by None = omega arith
+      by (Some x) = own x.dirty (messages_of nodes x.chain) x.kind
 
 -- The freed files are listed.
 pub released-told : (nodes : Slab Node) (rows : OrderedSlabView FileRow) (told : ToldListsView) (files : Map File) (then : ℕ) → AreTold nodes rows told files then → told.tells_released ≡ true → AreReleased (files_of nodes rows.values) (rows.last + 1) (since_of told files then) told.released

@@ -1,5 +1,5 @@
 -- That both lists fit the rows, as rows come, change and go.
-use Rattle.std.proofs.Common.{◌≡◌, ◌≤◌, ◌<◌, ℕ, ◌-◌, Bool, true, false, inl, inr, List, [], ◌∷◌, ◌++◌, length, refl, sym, ap, ◌∙◌, cond, nat_eq, arith, ◌+◌}
+use Rattle.std.proofs.Common.{◌≡◌, ◌≤◌, ◌<◌, ◌&&◌, ℕ, ◌-◌, Bool, true, false, inl, inr, List, [], ◌∷◌, ◌++◌, length, refl, sym, ap, ◌∙◌, cond, nat_eq, arith, ◌+◌}
 use Rattle.std.specs.Prelude.{Option, Some, None, is_some, nat_lt}
 use Rattle.std.specs.Option.{option_map_or}
 use Rattle.std.specs.FinMap as map
@@ -7,6 +7,7 @@ use Rattle.std.proofs.lemmas.List.Sums.{sum_by-append}
 use Rattle.std.proofs.lemmas.Bool.{false≢true, cases_Bool, le-ltb, lt-ltb, ltb-false, ltb-true}
 use Rattle.af_base.specs.Counts.{count_in, one}
 use Rattle.af_base.specs.Told.{AreReleased, was_given}
+use Rattle.af_base.specs.Refusals.{no_socket}
 use Rattle.af_base.specs.World.{Map, Since}
 use Rattle.af_base.proofs.ExactLists.{just-gone, just-pushed, just-same, just-struck, just-without}
 use Rattle.af_base.proofs.Lookups.{insert-here, insert-other, remove-other, remove-here, same_or_not, itself, not_same, there, told_apart}
@@ -16,78 +17,76 @@ use Rattle.af_base.proofs.Sums.{total-remove}
 use Rattle.af_base.proofs.Totals.{total-most}
 use Rattle.ordered_slab.proofs.Values.{lent_many}
 use Rattle.af_desc.specs.declared.file_row.FileRow.{FileRow}
-use Rattle.af_desc.specs.Told.{IsDirtyList}
+use Rattle.af_desc.specs.Told.{is_listed, IsDirtyList}
 
--- Whether a row is dirty.
-abbrev dirty : FileRow → Bool
-dirty r = r.dirty
+-- The row of a dirty socket.
+abbrev soiled : FileRow → FileRow
+soiled r = record r { kind = Some no_socket; dirty = true }
 
--- The list of dirty files, as the row of one that is there changes or is removed.
+-- The list of dirty sockets, as the row of one that is there changes or is removed.
 module _ (m : Map FileRow) (fs : List ℕ) (f : ℕ) (x : FileRow) (at : map.get m f ≡ Some x) (h : IsDirtyList m fs) where
-  -- The row is dirty or not.
-  was : option_map_or dirty (map.get m f) false ≡ x.dirty
-  was = ap (λ o. option_map_or dirty o false) at
+  -- The row is listed or not.
+  was : option_map_or is_listed (map.get m f) false ≡ is_listed x
+  was = ap (λ o. option_map_or is_listed o false) at
 
-  -- A row that is as dirty as it was leaves the list right.
-  pub listed-same : (y : FileRow) → y.dirty ≡ x.dirty → IsDirtyList (map.insert m f y) fs
-  listed-same y same = just-same dirty m (map.insert m f y) fs f h y refl (same ∙ sym was)
+  -- A row that is as much listed as it was leaves the list right.
+  pub listed-same : (y : FileRow) → is_listed y ≡ is_listed x → IsDirtyList (map.insert m f y) fs
+  listed-same y same = just-same is_listed m (map.insert m f y) fs f h y refl (same ∙ sym was)
 
-  -- A row that becomes dirty is the last of the list.
-  pub listed-set : (y : FileRow) → y.dirty ≡ true → x.dirty ≡ false → IsDirtyList (map.insert m f y) (fs ++ f ∷ [])
-  listed-set y so not = (just-pushed dirty m (map.insert m f y) fs f h y refl so (was ∙ not)).0
+  -- A row that becomes listed is the last of the list.
+  pub listed-set : (y : FileRow) → is_listed y ≡ true → is_listed x ≡ false → IsDirtyList (map.insert m f y) (fs ++ f ∷ [])
+  listed-set y so not = (just-pushed is_listed m (map.insert m f y) fs f h y refl so (was ∙ not)).0
 
   -- Where a row is not dirty, fewer are listed than there are.
   pub listed-few : x.dirty ≡ false → length fs < map.len m
   listed-few not =
-      let y = record x { dirty = true } in
-      omega (arith, (just-pushed dirty m (map.insert m f y) fs f h y refl refl (was ∙ not)).1, lent_many m f x y at)
+      let y = soiled x in
+      omega (arith, (just-pushed is_listed m (map.insert m f y) fs f h y refl refl (was ∙ ap (λ b. b && is_some x.kind) not)).1, lent_many m f x y at)
 
   -- A list without the removed file is right.
   pub listed-gone : (gs : List ℕ) → ((g : ℕ) → count_in g gs ≡ count_in g fs - one g f) → IsDirtyList (map.remove m f) gs
-  listed-gone gs less = just-gone dirty m (map.remove m f) fs f h gs refl less
+  listed-gone gs less = just-gone is_listed m (map.remove m f) fs f h gs refl less
 
   -- Where the removed file was not dirty the list stays right.
   pub listed-without : x.dirty ≡ false → IsDirtyList (map.remove m f) fs
-  listed-without not = just-without dirty m (map.remove m f) fs f h refl (was ∙ not)
+  listed-without not = just-without is_listed m (map.remove m f) fs f h refl (was ∙ ap (λ b. b && is_some x.kind) not)
 
--- A row that is as dirty serves as well.
-pub listed-alike : (m : Map FileRow) (fs : List ℕ) (f : ℕ) (x y : FileRow) → y.dirty ≡ x.dirty → IsDirtyList (map.insert m f x) fs → IsDirtyList (map.insert m f y) fs
+-- A row that is as much listed serves as well.
+pub listed-alike : (m : Map FileRow) (fs : List ℕ) (f : ℕ) (x y : FileRow) → is_listed y ≡ is_listed x → IsDirtyList (map.insert m f x) fs → IsDirtyList (map.insert m f y) fs
 listed-alike m fs f x y same h g = h g ∙ ap {B = ℕ} (λ b. cond b 1 0) (elim (same_or_not g f) [
   | inl here ↦ own x here ∙ sym same ∙ sym (own y here)
-  | inr apart ↦ ap (λ o. option_map_or dirty o false) (insert-other m f x g apart ∙ sym (insert-other m f y g apart))
+  | inr apart ↦ ap (λ o. option_map_or is_listed o false) (insert-other m f x g apart ∙ sym (insert-other m f y g apart))
 ]) where
-  own : (r : FileRow) → g ≡ f → option_map_or dirty (map.get (map.insert m f r) g) false ≡ r.dirty
-  own r here = ap (λ o. option_map_or dirty o false) (ap (map.get (map.insert m f r)) here ∙ insert-here m f r)
+  own : (r : FileRow) → g ≡ f → option_map_or is_listed (map.get (map.insert m f r) g) false ≡ is_listed r
+  own r here = ap (λ o. option_map_or is_listed o false) (ap (map.get (map.insert m f r)) here ∙ insert-here m f r)
 
--- The list of dirty files, as one comes.
+-- The list of dirty sockets, as a file comes.
 module _ (m : Map FileRow) (fs : List ℕ) (f : ℕ) (x : FileRow) (new : map.contains_key m f ≡ false) (h : IsDirtyList m fs) where
-  -- It was not dirty.
-  not : option_map_or dirty (map.get m f) false ≡ false
+  -- It was not listed.
+  not : option_map_or is_listed (map.get m f) false ≡ false
   not = by (map.get m f) new where
-    by : (o : Option FileRow) → is_some o ≡ false → option_map_or dirty o false ≡ false
+    by : (o : Option FileRow) → is_some o ≡ false → option_map_or is_listed o false ≡ false
     by None e = refl
     by (Some r) e = absurd (false≢true (sym e))
 
-  -- It is the last of the list if it is dirty.
-  pub listed-new : IsDirtyList (map.insert m f x) (cond x.dirty (fs ++ f ∷ []) fs)
-  listed-new = by x.dirty refl where
-    by : (b : Bool) → x.dirty ≡ b → IsDirtyList (map.insert m f x) (cond b (fs ++ f ∷ []) fs)
-    by true so = (just-pushed dirty m (map.insert m f x) fs f h x refl so not).0
-    by false so = just-same dirty m (map.insert m f x) fs f h x refl (so ∙ sym not)
+  -- It is the last of the list if it is a dirty socket.
+  pub listed-new : (b : Bool) → is_listed x ≡ b → IsDirtyList (map.insert m f x) (cond b (fs ++ f ∷ []) fs)
+  listed-new true so = (just-pushed is_listed m (map.insert m f x) fs f h x refl so not).0
+  listed-new false so = just-same is_listed m (map.insert m f x) fs f h x refl (so ∙ sym not)
 
   -- No more were listed than there are.
   pub listed-most : length fs ≤ map.len m
   listed-most =
-      let y = record x { dirty = true } in
-      omega (arith, (just-pushed dirty m (map.insert m f y) fs f h y refl refl not).1, len-insert_most m f y)
+      let y = soiled x in
+      omega (arith, (just-pushed is_listed m (map.insert m f y) fs f h y refl refl not).1, len-insert_most m f y)
 
 -- An empty list stays right.
 pub listed-none : (m : Map FileRow) (fs : List ℕ) (f : ℕ) → fs ≡ [] → IsDirtyList m fs → IsDirtyList (map.remove m f) fs
-listed-none m fs f none h = just-gone dirty m (map.remove m f) fs f h fs refl (λ g. let zero = ap (count_in g) none in omega (arith, zero))
+listed-none m fs f none h = just-gone is_listed m (map.remove m f) fs f h fs refl (λ g. let zero = ap (count_in g) none in omega (arith, zero))
 
 -- The last of the list is no longer dirty.
 pub last-struck : (m : Map FileRow) (fs gs : List ℕ) (f : ℕ) → IsDirtyList m fs → fs ≡ gs ++ f ∷ [] → (y : FileRow) → y.dirty ≡ false → IsDirtyList (map.insert m f y) gs
-last-struck m fs gs f h is y not = just-struck dirty m (map.insert m f y) fs f h y refl gs not (λ g.
+last-struck m fs gs f h is y not = just-struck is_listed m (map.insert m f y) fs f h y refl gs (ap (λ b. b && is_some y.kind) not) (λ g.
     omega (arith, ap (count_in g) is, sum_by-append (one g) gs (f ∷ []), count-cons g f []))
 
 -- ---- freed files

@@ -1,6 +1,6 @@
 -- The lists of the files that were freed and of the sockets whose readiness may have changed,
 -- beside the rows. Definitions that name no manual page are this project's own.
-use Rattle.std.specs.Prelude.{◌≡◌, ◌≤◌, ◌<◌, ◌+◌, ℕ, Bool, true, false, List, Some, IsTrue, is_some}
+use Rattle.std.specs.Prelude.{◌≡◌, ◌≤◌, ◌<◌, ◌+◌, ◌&&◌, ℕ, Bool, true, false, List, Some, IsTrue, is_some}
 use Rattle.std.specs.FinMap as map
 use Rattle.slab.specs.Slab.{Slab}
 use Rattle.af_base.specs.Counts.{ListsExactly}
@@ -31,15 +31,19 @@ since_of told files next = record {
   next = next;
 }
 
--- The list has each dirty file, once, and no other.
+-- Whether the row is a dirty socket's.
+abbrev pub is_listed : FileRow → Bool
+is_listed r = r.dirty && is_some r.kind
+
+-- The list has each dirty socket, once, and no other file.
 abbrev pub IsDirtyList : Map FileRow → List ℕ → Type 0
-IsDirtyList rows fs = ListsExactly (λ r. r.dirty) rows fs
+IsDirtyList rows fs = ListsExactly is_listed rows fs
 
 -- The rows as if none were dirty.
 abbrev pub cleaned : Map FileRow → Map FileRow
 cleaned rows = part {A = FileRow} (λ r. record r { dirty = false }) rows
 
--- One list has just the dirty files; if changed sockets are listed, a socket that is not dirty has
+-- One list has just the dirty sockets; if changed sockets are listed, a socket that is not dirty has
 -- the face that it had among these files. Numbers rise; if freed files are listed, the other list
 -- has those that are gone since the next number was this.
 pub record AreTold (nodes : Slab Node) (rows : OrderedSlabView FileRow) (told : ToldListsView)

@@ -6,7 +6,7 @@ ghost use Rattle.std.specs.FinMap as map;
 ghost use Rattle.af_base.specs.Changes.{connected, dequeued, listening, pushed, queued, with_name};
 ghost use Rattle.af_base.specs.Places.{backlog_in, held_in, queue_in};
 ghost use Rattle.af_base.specs.Refusals.{room_of};
-ghost use Rattle.af_base.specs.Told.{AreChanged, AreReleased};
+ghost use Rattle.af_base.specs.Told.{AreChanged, AreReleased, AreSocketsOnce};
 ghost use Rattle.af_base.specs.Whole.{IsMessageWithin};
 ghost use Rattle.af_base.specs.World.{untold};
 ghost use Rattle.af_base.specs.declared.events.SockType.TheVariants.{Seqpacket};
@@ -676,7 +676,8 @@ impl FileTable {
     /// Returns the sockets whose readiness may have changed since the lists were last emptied, each
     /// once, if that list is kept.
     pub fn changed_sockets(&self) -> &[FileRef]
-        ensures { self.now.since.changed ≡ true
+        ensures once { AreSocketsOnce self.now.files result.now }
+        ensures changed { self.now.since.changed ≡ true
             → AreChanged self.now.files self.now.since result.now }
     {
         self.told.changed()

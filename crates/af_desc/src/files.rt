@@ -12,6 +12,7 @@ ghost use Rattle.af_base.specs.Steps.{connected_socket, idle_socket};
 ghost use Rattle.af_base.specs.Told.{AreChanged, AreReleased};
 ghost use Rattle.af_base.specs.Whole.{IsMessageWithin};
 ghost use Rattle.af_base.specs.World.{untold};
+ghost use Rattle.af_base.specs.Told.{AreChanged, AreReleased, AreSocketsOnce};
 ghost use Rattle.af_mark.specs.MarksView.{is_grey, is_unmarked};
 ghost use Rattle.af_desc.specs.FileTableView.{file_of};
 ghost use Rattle.af_desc.specs.FilesView.{AreNamed, after_end, changed, changed_queue, entered};
@@ -499,7 +500,8 @@ impl Files {
     /// Returns the sockets whose readiness may have changed since the lists were last emptied, each
     /// once, if that list is kept.
     pub fn changed_sockets(&self) -> &[FileRef]
-        ensures { self.now.since.changed ≡ true
+        ensures once { AreSocketsOnce self.now.files result.now }
+        ensures changed { self.now.since.changed ≡ true
             → AreChanged self.now.files self.now.since result.now }
     {
         self.rows.changed_sockets()

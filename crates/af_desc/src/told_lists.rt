@@ -5,7 +5,7 @@ ghost use Rattle.std.specs.Prelude.{vec_capacity};
 ghost use Rattle.std.specs.FinMap as map;
 ghost use Rattle.af_base.specs.World.{Map};
 ghost use Rattle.af_desc.specs.declared.file_row.FileRow.{FileRow};
-ghost use Rattle.af_desc.specs.Told.{cleaned, IsDirtyList};
+ghost use Rattle.af_desc.specs.Told.{cleaned, is_listed, IsDirtyList};
 
 use crate::dirty_mark::DirtyMark;
 use crate::file_row::FileRow;
@@ -202,7 +202,7 @@ impl ToldLists {
         ensures dirty { self.old.tells_changed ≡ true → is_some row.old.kind ≡ true
             → row.new.dirty ≡ true }
         ensures listed { (rows : Map FileRow) (x : FileRow) → map.get rows file.now ≡ Some x
-            → x.dirty ≡ row.old.dirty → IsDirtyList rows self.old.changed
+            → is_listed x ≡ is_listed row.old → IsDirtyList rows self.old.changed
             → IsDirtyList (map.insert rows file.now row.new) self.new.changed }
         ensures row { row.new ≡ record row.old { dirty = row.new.dirty } }
         ensures rest { self.new ≡ record self.old { changed = self.new.changed } }

@@ -9,4 +9,4 @@ add_changed-requires c = λ asked. room-for c.self.invariant c.args.file.now c.i
 pub invariant_of-self-2 : goal.invariant_of-self-2
 invariant_of-self-2 c =
     let n = c.add_changed.ensures in
-    kept-kind c.self.invariant c.args.file.now c.in-Some.row.now (sym c.get_mut.ensures.value ∙ ap option_copied_mut c.in-Some.is) _ _ _ refl refl n.row n.dirty n.listed n.rest
+    kept-kind c.self.invariant c.args.file.now c.in-Some.row.now (sym c.get_mut.ensures.value ∙ ap option_copied_mut c.in-Some.is) _ _ _ _ refl refl c.hang_up.ensures n.row n.dirty n.listed n.rest

@@ -30,7 +30,7 @@ add_changed-requires c = λ asked. room-for c.self.invariant c.args.file.now c.i
 pub invariant_of-self-2 : goal.invariant_of-self-2
 invariant_of-self-2 c =
     let n = c.add_changed.ensures in
-    kept-kind c.self.invariant c.args.file.now c.in-Some.row.now (sym c.get_mut.ensures.value ∙ ap option_copied_mut c.in-Some.is) _ _ _ refl refl n.row n.dirty n.listed n.rest
+    kept-kind c.self.invariant c.args.file.now c.in-Some.row.now (sym c.get_mut.ensures.value ∙ ap option_copied_mut c.in-Some.is) _ _ _ _ refl refl c.in_ok-listen.ensures.ok n.row n.dirty n.listed n.rest
 
 pub invariant_of-self-in_err-listen : goal.invariant_of-self-in_err-listen
 invariant_of-self-in_err-listen c = kept-marked c.self.invariant c.args.file.now c.in-Some.row.now (sym c.get_mut.ensures.value ∙ ap option_copied_mut c.in-Some.is) _ c.in_err-listen.ensures.err refl refl

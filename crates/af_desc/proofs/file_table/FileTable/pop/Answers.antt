@@ -1,4 +1,4 @@
-use Rattle.std.proofs.Common.{◌≡◌, refl, sym, ap, ◌∙◌, subst, [], drop}
+use Rattle.std.proofs.Common.{◌≡◌, ◌&&◌, refl, sym, ap, ◌∙◌, subst, [], drop}
 use Rattle.std.specs.Prelude.{Some}
 use Rattle.std.specs.Option.{option_copied_mut, option_map_or}
 use Rattle.af_base.specs.Changes.{file_with}
@@ -27,7 +27,9 @@ pub invariant_of-self-2 : goal.invariant_of-self-2
 invariant_of-self-2 c =
     let n = c.add_changed.ensures in
     let p = c.pop.ensures in
-    kept-queue c.self.invariant c.args.file.now c.in_ok-row.row.now (sym c.get_mut.ensures.value ∙ ap option_copied_mut c.in_ok-row.was) _ _ _ _ (sym (ap (λ r. r.dirty) p.rest)) n.row n.dirty n.listed n.rest p.chain p.others
+    let x = c.in_ok-row.row.now in
+    let socket = socket_same (without_popped c.pop.result) (messages_of c.self.inside.nodes x.chain) (messages_of c.pop.new.nodes c.pop.new.self.chain) x.kind c.pop.new.self.kind p.file in
+    kept-queue c.self.invariant c.args.file.now c.in_ok-row.row.now (sym c.get_mut.ensures.value ∙ ap option_copied_mut c.in_ok-row.was) _ _ _ _ (sym (λ i. ap (λ r. r.dirty) p.rest i && socket i)) n.row n.dirty n.listed n.rest p.chain p.others
 
 pub invariant_of-self-in_err-popped : goal.invariant_of-self-in_err-popped
 invariant_of-self-in_err-popped c =

@@ -1,5 +1,6 @@
 use Rattle.std.proofs.Common.{sym, ap, ◌∙◌}
 use Rattle.std.specs.Option.{option_copied_mut}
+use Rattle.af_desc.specs.Told.{is_listed}
 use Rattle.af_desc.proofs.FileTableInvariant.{kept-queue, room-for}
 use Rattle.af_desc.proofs.file_table.FileTable.push_message.Goals as goal
 
@@ -14,4 +15,4 @@ invariant_of-self c =
     let n = c.add_changed.ensures in
     let p = c.push.ensures in
     let at = sym c.get_mut.ensures.value ∙ ap option_copied_mut c.unwrap-row.ensures in
-    kept-queue c.self.invariant c.args.file.now c.unwrap-row.result.now at _ _ _ _ (sym (ap (λ r. r.dirty) p.rest)) n.row n.dirty n.listed n.rest p.chain p.others
+    kept-queue c.self.invariant c.args.file.now c.unwrap-row.result.now at _ _ _ _ (sym (ap is_listed p.rest)) n.row n.dirty n.listed n.rest p.chain p.others

@@ -1,5 +1,6 @@
 use Rattle.std.proofs.Common.{sym, ap, ◌∙◌}
 use Rattle.std.specs.Option.{option_copied_mut}
+use Rattle.af_desc.specs.Told.{is_listed}
 use Rattle.af_desc.proofs.FileTableInvariant.{kept-moved, kept-queue, room-for}
 use Rattle.af_desc.proofs.file_table.FileTable.take.Goals as goal
 
@@ -18,4 +19,4 @@ pub invariant_of-self-2 : goal.invariant_of-self-2
 invariant_of-self-2 c =
     let n = c.add_changed.ensures in
     let t = c.take.ensures in
-    kept-queue c.self.invariant c.args.file.now c.in-Some.row.now (sym c.get_mut.ensures.value ∙ ap option_copied_mut c.in-Some.is) _ _ _ _ (sym (ap (λ r. r.dirty) t.rest)) n.row n.dirty n.listed n.rest t.chain t.others
+    kept-queue c.self.invariant c.args.file.now c.in-Some.row.now (sym c.get_mut.ensures.value ∙ ap option_copied_mut c.in-Some.is) _ _ _ _ (sym (ap is_listed t.rest)) n.row n.dirty n.listed n.rest t.chain t.others
