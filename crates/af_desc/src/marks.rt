@@ -1,7 +1,7 @@
 //! Which files a pass of the collector has marked, and which of these it has still to scan. No call
 //! takes memory.
-ghost use Rattle.std.specs.Prelude.{◌≡◌, ◌<◌, ◌-◌, ◌&&◌, ℕ, IfSome, IfNone, cond, is_some, nat_lt};
-ghost use Rattle.std.specs.Prelude.{false, nat_eq, option_map, true, vec_capacity};
+ghost use Rattle.std.specs.Prelude.{◌≡◌, ◌<◌, ◌-◌, ◌^◌, ◌&&◌, ℕ, IfSome, IfNone, cond, is_some};
+ghost use Rattle.std.specs.Prelude.{false, nat_eq, nat_lt, option_map, true, vec_capacity};
 ghost use Rattle.std.specs.FinMap as map;
 ghost use Rattle.af_base.specs.Counts.{count_in};
 ghost use Rattle.af_base.specs.Places.{held_in};
@@ -191,7 +191,8 @@ fn remove_listed(rows: &mut FileTable, grey: &mut Vec<FileRef>, ino: Ino, at: us
     }
 }
 
-/// Returns the epoch after `epoch`: no mark of an earlier epoch counts in it.
+/// Returns the epoch after `epoch`: no mark of an earlier epoch counts in it. Changes no row,
+/// except once in 2^32 epochs.
 fn next_epoch(rows: &mut FileTable, epoch: u32) -> u32
     requires upto { AreUpTo epoch rows.old.marks }
     requires begins { map.contains_key rows.old.files 0 ≡ false }
@@ -201,6 +202,7 @@ fn next_epoch(rows: &mut FileTable, epoch: u32) -> u32
     ensures known { (f : ℕ) → map.contains_key rows.new.marks f
         ≡ map.contains_key rows.old.marks f }
     ensures len { map.len rows.new.marks ≡ map.len rows.old.marks }
+    ensures untouched { epoch < 2 ^ 32 - 1 → rows.new ≡ rows.old }
     ensures rest { rows.new ≡ record rows.old { marks = rows.new.marks } }
 {
     if epoch < u32::MAX {
