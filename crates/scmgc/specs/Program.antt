@@ -35,7 +35,8 @@ pub record RanScript (told left before after : Option (List ℕ)) (read_failed w
 -- The text tells a race that ended well, without checkpoints where their number of events is 0.
 abbrev pub TextOf : ℕ → ℕ → ℕ → ℕ → ℕ → List ℕ → Type 0
 TextOf workers steps seed budget zero = RaceText workers steps seed budget
-TextOf workers steps seed budget (suc checkpoint) = LongRaceText workers steps seed budget
+TextOf workers steps seed budget (suc checkpoint) =
+    LongRaceText workers steps seed budget (suc checkpoint)
 
 -- There was a race that ended well, and its text was written.
 abbrev pub RanRace : ℕ → ℕ → ℕ → ℕ → ℕ → Option (List ℕ) → Option (List ℕ) → Type 0
@@ -52,8 +53,9 @@ abbrev pub PlayedScript : Style → Option (List ℕ) → Option (List ℕ) → 
 PlayedScript style told before after = (input : List ℕ) → told ≡ Some input
     → Played style input before after
 
--- The task was done to its end: the script on the input was run, or played in this style; or that
--- of a file was played, or there was a race, and the input was not read.
+-- The task was done to its end: the script on the input was run, or played in this style; or there
+-- was a race, and the input was not read. Of a script in a file only the latter can be said: no
+-- contract tells what a file has.
 abbrev pub Did : Style → Task → Option (List ℕ) → Option (List ℕ) → Option (List ℕ)
     → Option (List ℕ) → Type 0
 Did style Run told left before after = (events : ℕ) × RanToEnd told left before after events

@@ -87,9 +87,13 @@ fn long_race_text<H: Threads + Wait + Sync>(
     requires { let race = long.race in
         IsInRange (task.Race race.workers race.steps race.seed race.budget 1) }
     ensures { let race = long.race in IfOk result (λ text.
-        LongRaceText race.workers race.steps race.seed race.budget (string_bytes text)) }
+        LongRaceText race.workers race.steps race.seed race.budget long.checkpoint
+        (string_bytes text)) }
 {
-    let totals = long.run(rt, alloc)?;
+    let outcome = long.run(rt, alloc)?;
+    let totals = outcome.totals();
+    // Dropped by a call: at the end of the block each part would be dropped, and proved, by itself.
+    drop(outcome);
     Ok(totals.text(alloc)?)
 }
 

@@ -2,9 +2,8 @@
 use Rattle.std.proofs.Common.{◌≡◌, ◌<◌, ◌≤◌, ◌+◌, ◌-◌, ◌*◌, ◌++◌, ℕ, zero, suc, List, [], ◌∷◌, ap, append-nil, append_assoc, arith, drop, inl, inr, length, length-append, map, min, refl, sym, ◌∙◌, subst, slice_index_or, take}
 use Rattle.std.proofs.lemmas.Bool.{cases_eq}
 use Rattle.std.proofs.lemmas.List.{get_or_append_left, get_or_push, length-drop, length-map, length-take, map-append, take_all}
-use Rattle.std.proofs.Math.Seq.{drop-length, drop-nil, take-nil}
+use Rattle.std.proofs.Math.Seq.{drop-length, drop-nil, take-append_seam, take-nil}
 use Rattle.std.specs.Prelude.{Option, Some, slice_get}
-use Rattle.std.specs.FinMap as finmap
 use Rattle.af_base.specs.declared.events.Event.{Event}
 use Rattle.af_base.specs.declared.events.Event.TheVariants as event
 use Rattle.af_base.specs.declared.events.Reply.TheVariants as reply
@@ -17,10 +16,10 @@ use Rattle.af_layer.specs.Seats.{SeatView}
 use Rattle.af_layer.proofs.JoinedLogs.{legal-append, part-append}
 use Rattle.scmgc.specs.Race.Scripts.{script_of}
 use Rattle.scmgc.specs.Race.Parts.{AreFresh, AreLeft, AreNext, Continues, IsOfEnd, IsOfPart, IsOfStart, IsPart, LogHas, SeatsHave, taken}
-use Rattle.scmgc.specs.Race.{EndsInPass, NoPart, OnePart, RacedInParts, TurnedInParts, scripts_of, spawned, worker_steps}
+use Rattle.scmgc.specs.Race.{ChildrenExitInPart, EndsInPass, EndsPart, IsInParts, NextPart, NoPart, OnePart, RacedBy, RacedInParts, Start, TurnedInParts, all_exits_of, exits_in, scripts_of, share_of, spawned, with_log, worker_steps}
 use Rattle.scmgc.proofs.race.SeatEntries.{counted}
 use Rattle.scmgc.proofs.race.RaceEnds.{all-steps}
-use Rattle.scmgc.proofs.race.RaceCloses.{all_new, part-at}
+use Rattle.scmgc.proofs.race.RaceCloses.{all_new, exits-by-log, part-at}
 use Rattle.scmgc.proofs.race.ScriptLength.{script-count}
 use Rattle.scmgc.proofs.race.Works.{collector-work, script-at, script-work, scripts-count}
 
@@ -37,10 +36,22 @@ open-fresh n seats count each = record {
   lists = λ i lt. ap (λ s. s.list) (each i nobody lt);
 }
 
+-- n + 1 seats and one more.
+two-more : (n : ℕ) → n + 1 + 1 ≡ n + 2
+two-more n = omega arith
+
 -- An audit's facts on the seats hold of their parts of the log.
 pub log-has : (n : ℕ) (P : ℕ → List Pair → Type 0) (b : BookView) (seats : List SeatView) → SeatsHave n P seats → IsWholeBook b seats → LogHas n P b.log
 log-has n P b seats had whole i lt =
     subst (P i) (part-at b seats whole i (omega (arith, lt, had.count)) ∙ ap (λ k. of_seat k b.log) (had.numbers i lt)) (had.lists i lt)
+
+-- So the children of a part exited by its log.
+pub part-exits : (n : ℕ) (P : ℕ → List Pair → Type 0) (b : BookView) (seats : List SeatView) → SeatsHave (n + 2) P seats → IsWholeBook b seats → EndsPart (all_exits_of (take (n + 1) seats)) [] (list_at seats (n + 1)) → ChildrenExitInPart n b.log
+part-exits n P b seats had whole ended =
+    let here : LogHas (n + 2) (λ i list. list ≡ list_at seats i) b.log = log-has (n + 2) (λ i list. list ≡ list_at seats i) b seats (record { count = had.count; numbers = had.numbers; lists = λ i lt. refl }) whole in
+    let main : list_at seats (n + 1) ≡ of_seat (n + 2) b.log = sym (subst (λ k. of_seat k b.log ≡ list_at seats (n + 1)) (two-more n) (here (n + 1) (omega arith))) in
+    let exits = exits-by-log b.log seats (n + 1) (omega (arith, had.count)) (λ i lt. here i (omega (arith, lt))) in
+    subst (EndsPart (exits_in (n + 1) b.log) []) main (subst (λ e. EndsPart e [] (list_at seats (n + 1))) exits ended)
 
 -- So a part that was audited is one of the race.
 pub is-part : (begins : ℕ → Machine → Type 0) (n : ℕ) (P : ℕ → List Pair → Type 0) (b : BookView) (seats : List SeatView) → SeatsHave n P seats → begins b.seats b.start → IsLegalFrom b.start b.seats b.machine b.log → IsWholeBook b seats → IsPart begins n P b
@@ -89,10 +100,6 @@ seats-push n P all seats last joined had number list = record {
 seats-weaker : (n : ℕ) (P Q : ℕ → List Pair → Type 0) (seats : List SeatView) → ((i : ℕ) → i < n → (list : List Pair) → P i list → Q i list) → SeatsHave n P seats → SeatsHave n Q seats
 seats-weaker n P Q seats follows had = record { count = had.count; numbers = had.numbers; lists = λ i lt. follows i lt (list_at seats i) (had.lists i lt) }
 
--- n + 1 seats and one more.
-two-more : (n : ℕ) → n + 1 + 1 ≡ n + 2
-two-more n = omega arith
-
 -- The seats as they were, with the last one apart.
 module _ (n : ℕ) (all opened : List SeatView) (first : SeatView) (fresh : AreFresh (n + 2) all) (split : all ≡ opened ++ first ∷ []) where
   -- The last one, and those before it.
@@ -139,6 +146,14 @@ module _ (n : ℕ) (all opened : List SeatView) (first : SeatView) (fresh : AreF
             subst (λ (w : Option Work). Made w [] (list_at driven i)) is
             (subst (λ (old : List Pair). Made (slice_get works i) old (list_at driven i)) (apart.0.lists i lt) (drove.lists i (here i lt)))
 
+  -- Then the children exited, and the pass was ended, from the last one.
+  pub seats-exited : (driven after : List SeatView) (last : SeatView) → length driven ≡ length opened → after ≡ driven ++ last ∷ [] → EndsPart (all_exits_of driven) first.list last.list → EndsPart (all_exits_of (take (n + 1) after)) [] (list_at after (n + 1))
+  seats-exited driven after last count joined ended =
+      let few : n + 1 ≡ length driven = sym (count ∙ apart.0.count) in
+      let front : take (n + 1) after ≡ driven = ap (take (n + 1)) joined ∙ ap (λ k. take k (driven ++ last ∷ [])) few ∙ take-append_seam driven (last ∷ []) in
+      let behind : list_at after (n + 1) ≡ last.list = ap (λ l. list_at l (n + 1)) joined ∙ ap (λ s. s.list) (get_or_push driven last nobody (n + 1) (sym few)) in
+      subst (λ seats. EndsPart (all_exits_of seats) [] (list_at after (n + 1))) (sym front) (subst (EndsPart (all_exits_of driven) []) (sym behind) (subst (λ l. EndsPart (all_exits_of driven) l last.list) apart.2 ended))
+
 -- The first elements of a list, and then more of them.
 take-add : {A : Type 0} → (n m : ℕ) (xs : List A) → take (n + m) xs ≡ take n xs ++ take m (drop n xs)
 take-add zero m xs = let none : 0 + m ≡ m = omega arith in ap (λ k. take k xs) none
@@ -178,16 +193,17 @@ ends-after old more all part is ended =
 
 -- The book of a part: its log is legal from the machine where the last part ended, to that where
 -- this one does.
-module _ (workers steps seed budget : ℕ) (b book : BookView) (is : book ≡ taken b) (legal : IsLegalFrom b.start b.seats b.machine b.log) where
+module _ (workers steps seed budget checkpoint : ℕ) (b book : BookView) (is : book ≡ taken b) (legal : IsLegalFrom b.start b.seats b.machine b.log) where
   -- The first part: the processes were started.
-  pub goes-first : b.start ≡ fresh → LogHas (workers + 2) (IsOfStart workers) b.log → Continues workers steps seed budget 0 book
-  goes-first begins has = subst (Continues workers steps seed budget 0) (sym is) (record {
+  pub goes-first : b.start ≡ fresh → LogHas (workers + 2) (IsOfStart workers) b.log → Continues workers steps seed budget checkpoint 0 book
+  goes-first begins has = subst (Continues workers steps seed budget checkpoint 0) (sym is) (record {
     here = refl;
     log = b.log;
     legal = subst (λ m. IsLegalFrom m b.seats b.machine b.log) begins legal;
     scripts = λ k low high. ap events_of (none k low (omega (arith, high)));
     turns = subst (TurnedInParts budget 0) (sym (none (workers + 1) (omega arith) (omega arith))) NoPart;
     main_thread = ([], main ∙ sym (append-nil (spawned workers)));
+    parts = Start b.log main;
   }) where
     none : (k : ℕ) → 1 ≤ k → k ≤ workers + 1 → of_seat k b.log ≡ []
     none k low high =
@@ -201,7 +217,7 @@ module _ (workers steps seed budget : ℕ) (b book : BookView) (is : book ≡ ta
         ap (λ n. of_seat n b.log) (sym next) ∙ (has (workers + 1) (omega arith)).1 refl
 
   -- The parts that were done before.
-  module _ (old : BookView) (done : ℕ) (went : Continues workers steps seed budget done old) (seats : b.seats ≡ old.seats) (begins : b.start ≡ old.machine) where
+  module _ (old : BookView) (done : ℕ) (went : Continues workers steps seed budget checkpoint done old) (seats : b.seats ≡ old.seats) (begins : b.start ≡ old.machine) where
     -- All logs so far.
     whole : List Entry
     whole = went.log ++ b.log
@@ -213,14 +229,19 @@ module _ (workers steps seed budget : ℕ) (b book : BookView) (is : book ≡ ta
         legal-append fresh old.machine b.machine b.seats went.log b.log
         (subst (λ n. IsLegalFrom fresh n old.machine went.log) (sym seats) went.legal) (subst (λ m. IsLegalFrom m b.seats b.machine b.log) begins legal)
 
+    -- They are the logs before and this one.
+    whole-is : went.log ++ b.log ≡ whole
+    unfolding whole
+    whole-is = refl
+
     -- A seat's part of them.
     whole-part : (k : ℕ) → of_seat k whole ≡ of_seat k went.log ++ of_seat k b.log
     unfolding whole
     whole-part k = part-append k went.log b.log
 
     -- A part more, in which each worker did its next steps.
-    pub goes-next : (n : ℕ) (sources parts new : List (List Event)) → AreLeft workers steps seed done sources → AreNext n sources parts new → LogHas (workers + 2) (IsOfPart parts n budget) b.log → Continues workers steps seed budget (done + n) book
-    goes-next n sources parts new left next has = subst (Continues workers steps seed budget (done + n)) (sym is) (record {
+    pub goes-next : (n : ℕ) (sources parts new : List (List Event)) → AreLeft workers steps seed done sources → AreNext n sources parts new → LogHas (workers + 2) (IsOfPart parts n budget) b.log → n ≡ share_of workers checkpoint (steps - done) → worker_steps workers b.log ≡ workers * n → ChildrenExitInPart workers b.log → Continues workers steps seed budget checkpoint (done + n) book
+    goes-next n sources parts new left next has share counts exits = subst (Continues workers steps seed budget checkpoint (done + n)) (sym is) (record {
       here = refl;
       log = whole;
       legal = whole-legal;
@@ -230,6 +251,7 @@ module _ (workers steps seed budget : ℕ) (b book : BookView) (is : book ≡ ta
         went.main_thread.0 ++ of_seat (workers + 2) b.log,
         whole-part (workers + 2) ∙ ap (λ l. l ++ of_seat (workers + 2) b.log) went.main_thread.1 ∙ append_assoc (spawned workers) went.main_thread.0 (of_seat (workers + 2) b.log),
       );
+      parts = subst (IsInParts workers steps checkpoint (done + n)) whole-is (NextPart done n went.log b.log went.parts share counts exits);
     }) where
       count : length parts ≡ workers
       count = next.made_count ∙ left.count
@@ -254,8 +276,14 @@ module _ (workers steps seed budget : ℕ) (b book : BookView) (is : book ≡ ta
           ∙ sym (take-add done n (script_of k workers steps seed))
 
     -- The last part, when all steps were done: the race has ended well.
-    pub goes-last : done ≡ steps → 5 ≤ steps → LogHas (workers + 2) (IsOfEnd workers) b.log → (end : BookView) × RacedInParts workers steps seed budget end × (end.machine ≡ b.machine)
-    goes-last all some has = (record { seats = b.seats; start = fresh; machine = b.machine; log = whole }, raced, refl) where
+    pub goes-last : done ≡ steps → 5 ≤ steps → LogHas (workers + 2) (IsOfEnd workers) b.log → (log : List Entry) × RacedInParts workers steps seed budget checkpoint (with_log book log)
+    goes-last all some has = (
+      whole,
+      subst (λ v. RacedInParts workers steps seed budget checkpoint (with_log v whole)) (sym is) (record {
+        raced = raced;
+        parts = (went.log, b.log, sym whole-is, subst (λ n. IsInParts workers steps checkpoint n went.log) all went.parts);
+      }),
+    ) where
       same : (k : ℕ) → 1 ≤ k → k ≤ workers + 1 → of_seat k whole ≡ of_seat k went.log
       same k low high =
           let i = k - 1 in
@@ -268,7 +296,7 @@ module _ (workers steps seed budget : ℕ) (b book : BookView) (is : book ≡ ta
           let next_place : workers + 1 + 1 ≡ workers + 2 = omega arith in
           subst (λ n. EndsInPass [] (of_seat n b.log)) next_place ((has (workers + 1) (omega arith)).1 refl)
 
-      raced : RacedInParts workers steps seed budget (record { seats = b.seats; start = fresh; machine = b.machine; log = whole })
+      raced : RacedBy (TurnedInParts budget) workers steps seed (with_log b whole)
       raced = record {
         legal = whole-legal;
         scripts = λ k low high.
@@ -300,22 +328,24 @@ part-steps workers steps seed budget done n b sources parts new some fits left n
           ap (λ m. length (of_seat m b.log)) (sym place) ∙ sym pairs ∙ events ∙ few
 
 -- One more part of the race: less is left, and each worker did this many steps.
-pub next-part : (workers steps seed budget done n : ℕ) (old b book : BookView) (sources parts new : List (List Event)) (counted_steps : ℕ) → 5 ≤ steps → done + n ≤ steps → Continues workers steps seed budget done old → AreLeft workers steps seed done sources → AreNext n sources parts new
-    → IsPart (λ seats machine. (seats ≡ old.seats) × (machine ≡ old.start)) (length parts + 2) (IsOfPart parts n budget) b → book ≡ taken b → counted_steps ≡ worker_steps (length parts) b.log
-    → Continues workers steps seed budget (done + n) book × AreLeft workers steps seed (done + n) new × (counted_steps ≡ workers * n)
-next-part workers steps seed budget done n old b book sources parts new counted_steps some fits went left next part is counts =
+pub next-part : (workers steps seed budget checkpoint done n : ℕ) (old b book : BookView) (sources parts new : List (List Event)) (counted_steps : ℕ) → 5 ≤ steps → done + n ≤ steps → n ≡ share_of workers checkpoint (steps - done) → Continues workers steps seed budget checkpoint done old → AreLeft workers steps seed done sources → AreNext n sources parts new
+    → IsPart (λ seats machine. (seats ≡ old.seats) × (machine ≡ old.start)) (length parts + 2) (IsOfPart parts n budget) b → ChildrenExitInPart (length parts) b.log → book ≡ taken b → counted_steps ≡ worker_steps (length parts) b.log
+    → Continues workers steps seed budget checkpoint (done + n) book × AreLeft workers steps seed (done + n) new × (counted_steps ≡ workers * n)
+next-part workers steps seed budget checkpoint done n old b book sources parts new counted_steps some fits share went left next part exits is counts =
     let few = next.made_count ∙ left.count in
-    let lists : LogHas (workers + 2) (IsOfPart parts n budget) b.log = subst (λ m. LogHas (m + 2) (IsOfPart parts n budget) b.log) few part.lists in (
-      goes-next workers steps seed budget b book is part.legal old done went part.origin.0 (part.origin.1 ∙ went.here) n sources parts new left next lists,
+    let lists : LogHas (workers + 2) (IsOfPart parts n budget) b.log = subst (λ m. LogHas (m + 2) (IsOfPart parts n budget) b.log) few part.lists in
+    let did = part-steps workers steps seed budget done n b sources parts new some fits left next part.legal lists in (
+      goes-next workers steps seed budget checkpoint b book is part.legal old done went part.origin.0 (part.origin.1 ∙ went.here) n sources parts new left next lists share did
+          (subst (λ m. ChildrenExitInPart m b.log) few exits),
       left-less workers steps seed done n sources parts new left next,
-      counts ∙ ap (λ m. worker_steps m b.log) few ∙ part-steps workers steps seed budget done n b sources parts new some fits left next part.legal lists,
+      counts ∙ ap (λ m. worker_steps m b.log) few ∙ did,
     )
 
--- The race has ended well after the last part: what was counted, and the files that are left.
-pub long-ended : (workers steps seed budget done : ℕ) (old b : BookView) (steps_counted left : ℕ) → 5 ≤ steps → done ≡ steps → Continues workers steps seed budget done old
-    → IsPart (λ seats machine. (seats ≡ old.seats) × (machine ≡ old.start)) (workers + 2) (IsOfEnd workers) b → steps_counted ≡ workers * done → left ≡ finmap.len b.machine.world.files
-    → (end : BookView) × RacedInParts workers steps seed budget end × (worker_steps workers end.log ≡ workers * steps) × (steps_counted ≡ worker_steps workers end.log) × (left ≡ finmap.len end.machine.world.files)
-long-ended workers steps seed budget done old b steps_counted left some all went part counts files =
-    let ended = goes-last workers steps seed budget b (taken b) refl part.legal old done went part.origin.0 (part.origin.1 ∙ went.here) all some part.lists in
-    let each = all-steps (TurnedInParts budget) workers steps seed ended.0 some ended.1 in
-    (ended.0, ended.1, each, counts ∙ ap (λ n. workers * n) all ∙ sym each, files ∙ ap (λ (m : Machine). finmap.len m.world.files) (sym ended.2))
+-- The race has ended well after the last part, with all that was counted.
+pub long-ended : (workers steps seed budget checkpoint done : ℕ) (old b book : BookView) (counted_steps : ℕ) → 5 ≤ steps → done ≡ steps → Continues workers steps seed budget checkpoint done old
+    → IsPart (λ seats machine. (seats ≡ old.seats) × (machine ≡ old.start)) (workers + 2) (IsOfEnd workers) b → book ≡ taken b → counted_steps ≡ workers * done
+    → (log : List Entry) × RacedInParts workers steps seed budget checkpoint (with_log book log) × (counted_steps ≡ worker_steps workers log)
+long-ended workers steps seed budget checkpoint done old b book counted_steps some all went part is counts =
+    let ended = goes-last workers steps seed budget checkpoint b book is part.legal old done went part.origin.0 (part.origin.1 ∙ went.here) all some part.lists in
+    let each = all-steps (TurnedInParts budget) workers steps seed (with_log book ended.0) some ended.1.raced in
+    (ended.0, ended.1, counts ∙ ap (λ n. workers * n) all ∙ sym each)

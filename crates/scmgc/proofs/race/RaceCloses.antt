@@ -7,7 +7,7 @@ use Rattle.af_base.specs.declared.events.Event.{Event}
 use Rattle.af_layer.specs.Audit.{IsWholeBook, list_at, nobody, number_at}
 use Rattle.af_layer.specs.Calls.{is_seat}
 use Rattle.af_layer.specs.Drive.{Collects, Driven, Made, Script, Turned, WentOn, Work, events_of}
-use Rattle.af_layer.specs.Log.{BookView, IsLegal, Pair, of_seat}
+use Rattle.af_layer.specs.Log.{BookView, Entry, IsLegal, Pair, of_seat}
 use Rattle.af_layer.specs.Seats.{SeatView}
 use Rattle.af_layer.proofs.SeatPositions.{known_number}
 use Rattle.scmgc.specs.Race.Scripts.{script_of}
@@ -28,6 +28,19 @@ part-at b seats whole i lt =
 -- A list that began empty has just the events that extended it.
 pub all_new : (events : List Event) → (list : List Pair) → WentOn [] events list → events_of list ≡ events
 all_new events list went = ap events_of went.1 ∙ went.2
+
+-- The exits of the first seats' children, by the log.
+pub exits-by-log : (log : List Entry) (seats : List SeatView) (n : ℕ) → n ≤ length seats → ((i : ℕ) → i < n → of_seat (i + 1) log ≡ list_at seats i) → all_exits_of (take n seats) ≡ exits_in n log
+unfolding exits_in
+exits-by-log log seats zero le part = refl
+exits-by-log log seats (suc n) le part =
+    let next : n + 1 ≡ suc n = omega arith in
+    let more : all_exits_of (take (n + 1) seats) ≡ exits_in n log ++ exits_of (of_seat (n + 1) log) =
+    ap all_exits_of (take_more seats n nobody (omega (arith, le)))
+    ∙ flat_map-append (λ s. exits_of s.list) (take n seats) (slice_index_or seats n nobody ∷ [])
+    ∙ ap (λ l. l ++ all_exits_of (slice_index_or seats n nobody ∷ [])) (exits-by-log log seats n (omega (arith, le)) (λ i lt. part i (omega (arith, lt))))
+    ∙ ap (λ l. exits_in n log ++ l) (append-nil (exits_of (list_at seats n)) ∙ ap exits_of (sym (part n (omega (arith, le))))) in
+    subst (λ k. all_exits_of (take k seats) ≡ exits_in n log ++ exits_of (of_seat k log)) next more
 
 -- The seats of a race: those that were driven, and the last one.
 module _ (workers steps seed budget : ℕ) (b : BookView) (opened driven : List SeatView) (last : SeatView)
@@ -91,21 +104,8 @@ module _ (workers steps seed budget : ℕ) (b : BookView) (opened driven : List 
   pub raced : EndsInPass (spawned workers) last.list → IsLegal b.seats b.machine b.log → Raced workers steps seed budget b
   raced ended legal = record { legal = legal; scripts = scripts; turns = turns; main_thread = subst (EndsInPass (spawned workers)) main_part ended }
 
-  -- The exits of the first seats' children, by the log.
-  exits : (n : ℕ) → n ≤ workers + 1 → all_exits_of (take n driven) ≡ exits_in n b.log
-  unfolding exits_in
-  exits zero le = refl
-  exits (suc n) le =
-      let next : n + 1 ≡ suc n = omega arith in
-      let more : all_exits_of (take (n + 1) driven) ≡ exits_in n b.log ++ exits_of (of_seat (n + 1) b.log) =
-      ap all_exits_of (take_more driven n nobody (omega (arith, le, driven-count)))
-      ∙ flat_map-append (λ s. exits_of s.list) (take n driven) (slice_index_or driven n nobody ∷ [])
-      ∙ ap (λ l. l ++ all_exits_of (slice_index_or driven n nobody ∷ [])) (exits n (omega (arith, le)))
-      ∙ ap (λ l. exits_in n b.log ++ l) (append-nil (exits_of (list_at driven n)) ∙ ap exits_of (sym (part n (omega (arith, le))))) in
-      subst (λ k. all_exits_of (take k driven) ≡ exits_in n b.log ++ exits_of (of_seat k b.log)) next more
-
   -- The main thread let all of these children exit.
   pub children-exit : Finishes (all_exits_of driven) (spawned workers) last.list → ChildrenExit workers b.log
   children-exit list =
-      let all : all_exits_of driven ≡ exits_in (workers + 1) b.log = ap all_exits_of (sym (take_all (workers + 1) driven (omega (arith, driven-count)))) ∙ exits (workers + 1) (omega arith) in
+      let all : all_exits_of driven ≡ exits_in (workers + 1) b.log = ap all_exits_of (sym (take_all (workers + 1) driven (omega (arith, driven-count)))) ∙ exits-by-log b.log driven (workers + 1) (omega (arith, driven-count)) part in
       subst (Finishes (exits_in (workers + 1) b.log) (spawned workers)) main_part (subst (λ e. Finishes e (spawned workers) last.list) all list)

@@ -7,7 +7,7 @@ use Rattle.af_layer.specs.Drive.{Turned, events_of}
 use Rattle.af_layer.specs.Log.{BookView, Entry, IsLegal, IsLegalFrom, Pair, of_seat}
 use Rattle.af_layer.specs.Seats.{SeatView}
 use Rattle.scmgc.specs.Race.Scripts.{script_of}
-use Rattle.scmgc.specs.Race.{EndsInPass, TurnedInParts, spawned}
+use Rattle.scmgc.specs.Race.{EndsInPass, IsInParts, TurnedInParts, spawned}
 
 -- There are n seats in order, numbered from 1, and the list of each is as P says of its place.
 pub record SeatsHave (n : ℕ) (P : ℕ → List Pair → Type 0) (seats : List SeatView) : Type 0 where
@@ -63,9 +63,9 @@ pub record AreNext (count : ℕ) (old : List (List Event)) (parts new : List (Li
   pub left : (i : ℕ) → i < length old → slice_index_or new i [] ≡ drop count (slice_index_or old i [])
 
 -- A race after this many steps of each worker. The logs that were taken, put together, are one
--- legal log. In it each worker has done that part of its script, and the collector as many turns;
--- the main thread started the processes first.
-pub record Continues (workers steps seed budget done : ℕ) (b : BookView) : Type 0 where
+-- legal log, of the start and of parts. In it each worker has done that part of its script, and the
+-- collector as many turns; the main thread started the processes first.
+pub record Continues (workers steps seed budget checkpoint done : ℕ) (b : BookView) : Type 0 where
   pub here : b.start ≡ b.machine
   pub log : List Entry
   pub legal : IsLegal b.seats b.machine log
@@ -73,3 +73,4 @@ pub record Continues (workers steps seed budget done : ℕ) (b : BookView) : Typ
       → events_of (of_seat k log) ≡ take done (script_of k workers steps seed)
   pub turns : TurnedInParts budget done (of_seat (workers + 1) log)
   pub main_thread : (more : List Pair) × (of_seat (workers + 2) log ≡ spawned workers ++ more)
+  pub parts : IsInParts workers steps checkpoint done log

@@ -1,14 +1,13 @@
 //! A race of any length: its log is taken at checkpoints.
-ghost use Rattle.std.specs.Prelude.{◌≡◌, ◌≤◌, ◌+◌, ◌*◌, ℕ, IfOk, length};
-ghost use Rattle.std.specs.FinMap as map;
-ghost use Rattle.af_layer.specs.Log.{BookView};
+ghost use Rattle.std.specs.Prelude.{◌≡◌, ◌≤◌, ◌+◌, ◌-◌, ◌*◌, ℕ, List, IfOk, length};
+ghost use Rattle.af_layer.specs.Log.{Entry};
 ghost use Rattle.scmgc.specs.Race.Parts.{AreFresh, AreLeft, Continues};
-ghost use Rattle.scmgc.specs.Race.{RacedInParts, worker_steps};
+ghost use Rattle.scmgc.specs.Race.{RacedInParts, share_of, with_log, worker_steps};
 ghost use Rattle.scmgc.specs.declared.race.workload.script.TheConstants.{MIN_STEPS};
 ghost use Rattle.scmgc.specs.declared.race.workload.table.TheConstants.{MAX_WORKERS};
 
 use crate::race::fault::RaceFault;
-use crate::race::outcome::RaceTotals;
+use crate::race::outcome::LongOutcome;
 use crate::race::part::{Field, last_part, open_field, race_part};
 use crate::race::start::{next_parts, sources};
 use crate::race::whole::Race;
@@ -42,21 +41,22 @@ impl LongRace {
     /// It is a race as that of [`Race::run`]. But at a checkpoint all workers and the collector are
     /// back, and the log is audited against all lists; then log and lists are empty. Before that
     /// the children exit that the workers forked, and the pass that runs is ended. All logs put
-    /// together are one legal log, with all scripts whole.
+    /// together are one legal log, with all scripts whole, that leads to the engine handed out.
     ///
     /// `Memory` says that memory was refused, `Failed` is any other fault, as in [`Race::run`].
     pub fn run<R: Threads + Wait + Sync>(
         self,
         rt: &R,
         alloc: Global,
-    ) -> Result<RaceTotals, RaceFault>
+    ) -> Result<LongOutcome, RaceFault>
         requires workers { (1 ≤ self.race.workers) × (self.race.workers ≤ MAX_WORKERS) }
         requires steps { (MIN_STEPS ≤ self.race.steps) × (self.race.steps ≤ MAX_LONG_STEPS) }
-        ensures { let race = self.race in IfOk result (λ tally. (book : BookView)
-            × RacedInParts race.workers race.steps race.seed race.budget book
-            × (worker_steps race.workers book.log ≡ race.workers * race.steps)
-            × (tally.steps ≡ worker_steps race.workers book.log)
-            × (tally.left ≡ map.len book.machine.world.files)) }
+        ensures raced { let race = self.race in IfOk result (λ outcome. (log : List Entry)
+            × RacedInParts race.workers race.steps race.seed race.budget self.checkpoint
+            (with_log outcome.book log)
+            × (outcome.steps ≡ worker_steps race.workers log)) }
+        ensures steps { IfOk result (λ outcome.
+            outcome.steps ≡ self.race.workers * self.race.steps) }
     {
         let Race {
             workers,
@@ -69,17 +69,26 @@ impl LongRace {
         let mut done = 0;
         let mut counted = 0;
         while done < steps {
-            let turns = (self.checkpoint / workers).max(1).min(steps - done);
+            let turns = self.share(steps - done);
             let (next, more) = self.next_part(rt, alloc, field, sources.as_mut_slice(), turns)?;
             field = next;
             counted += more as u64;
             done += turns;
         }
-        let left = last_part::<Brand, R>(rt, field, workers)?;
-        Ok(RaceTotals {
+        let book = last_part::<Brand, R>(rt, field, workers)?;
+        Ok(LongOutcome {
+            book,
             steps: counted,
-            left,
         })
+    }
+
+    /// Returns how many events each worker does up to the next checkpoint, where this many are
+    /// left.
+    fn share(self, left: u32) -> u32
+        requires { 1 ≤ self.race.workers }
+        ensures { result ≡ share_of self.race.workers self.checkpoint left }
+    {
+        (self.checkpoint / self.race.workers).max(1).min(left)
     }
 
     /// Races to the next checkpoint, with this many events of each worker.
@@ -97,12 +106,13 @@ impl LongRace {
         requires sources { length sources.old ≡ self.race.workers }
         ensures fresh { let race = self.race in
             IfOk result (λ raced. AreFresh (race.workers + 2) raced.0.seats.items) }
-        ensures more { let race = self.race in IfOk result (λ raced. (done : ℕ)
-            → done + count ≤ race.steps
-            → Continues race.workers race.steps race.seed race.budget done field.book
-            → AreLeft race.workers race.steps race.seed done sources.old
-            → Continues race.workers race.steps race.seed race.budget (done + count) raced.0.book
-            × AreLeft race.workers race.steps race.seed (done + count) sources.new
+        ensures more { let race = self.race in let most = self.checkpoint in
+            let goes_on = Continues race.workers race.steps race.seed race.budget most in
+            let are_left = AreLeft race.workers race.steps race.seed in
+            IfOk result (λ raced. (done : ℕ)
+            → done + count ≤ race.steps → count ≡ share_of race.workers most (race.steps - done)
+            → goes_on done field.book → are_left done sources.old
+            → goes_on (done + count) raced.0.book × are_left (done + count) sources.new
             × (raced.1 ≡ race.workers * count)) }
     {
         let scripts = next_parts(alloc, sources, count)?;

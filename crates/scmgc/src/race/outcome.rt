@@ -3,7 +3,7 @@ ghost use Rattle.std.specs.Prelude.{◌≡◌, IfOk, string_bytes};
 ghost use Rattle.std.specs.FinMap as map;
 ghost use Rattle.scmgc.specs.Race.{race_lines, worker_steps};
 
-use af_layer::{Closed, Entry};
+use af_layer::{Book, Closed, Entry};
 use std::alloc::{AllocError, Global};
 
 /// The outcome of a race: its layer, which was closed without a fault.
@@ -16,6 +16,17 @@ pub struct RaceOutcome {
     pub workers: u32,
     /// The engine and the log, as the audit left them.
     pub closed: Closed,
+}
+
+/// The outcome of a race with checkpoints: each audit ended well.
+///
+/// The logs are gone. Put together they were one legal log, which led to the engine of the book.
+#[derive(Drop)]
+pub struct LongOutcome {
+    /// The engine as the last audit left it.
+    pub book: Book,
+    /// How many events the workers did, counted in the logs.
+    pub steps: u64,
 }
 
 /// The totals of a race. Each audit ended well.
@@ -43,6 +54,19 @@ impl RaceOutcome {
         RaceTotals {
             steps: steps_up_to(self.closed.book.log(), self.workers) as u64,
             left: self.closed.book.engine().live(),
+        }
+    }
+}
+
+impl LongOutcome {
+    /// Returns the events that the workers did, and counts the files that are live at the end.
+    pub fn totals(&self) -> RaceTotals
+        ensures steps { result.steps ≡ self.now.steps }
+        ensures left { result.left ≡ map.len self.now.book.machine.world.files }
+    {
+        RaceTotals {
+            steps: self.steps,
+            left: self.book.engine().live(),
         }
     }
 }

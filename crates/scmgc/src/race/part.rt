@@ -1,11 +1,10 @@
 //! The parts of a long race: each begins and ends at a checkpoint.
-ghost use Rattle.std.specs.Prelude.{◌≡◌, ◌≤◌, ◌+◌, ℕ, [], IfOk, map, vec_len};
-ghost use Rattle.std.specs.FinMap as finmap;
-ghost use Rattle.af_layer.specs.Audit.{AreEmptied, IsWholeBook};
+ghost use Rattle.std.specs.Prelude.{◌≡◌, ◌≤◌, ◌+◌, ℕ, [], IfOk, map, take, vec_len};
+ghost use Rattle.af_layer.specs.Audit.{AreEmptied, IsWholeBook, list_at};
 ghost use Rattle.af_layer.specs.Log.{BookView, IsLegalFrom};
 ghost use Rattle.scmgc.specs.Race.Parts.{AreFresh, Continues, IsOfEnd, IsOfPart, IsOfStart, IsPart};
 ghost use Rattle.scmgc.specs.Race.Parts.{SeatsHave, taken};
-ghost use Rattle.scmgc.specs.Race.{worker_steps};
+ghost use Rattle.scmgc.specs.Race.{ChildrenExitInPart, EndsPart, all_exits_of, worker_steps};
 ghost use Rattle.scmgc.specs.declared.race.workload.table.TheConstants.{MAX_WORKERS};
 
 use crate::race::fault::RaceFault;
@@ -53,9 +52,11 @@ fn play<R: Threads + Wait + Sync, O: Origin + Send>(
     turns: Turns,
 ) -> Result<Vec<Seat>, RaceFault>
     requires fresh { AreFresh (vec_len scripts + 2) seats.items }
-    ensures { let steps = map (λ script. script.items) scripts.items in
+    ensures lists { let steps = map (λ script. script.items) scripts.items in
         IfOk result (λ after.
         SeatsHave (vec_len scripts + 2) (IsOfPart steps turns.turns turns.budget) after.items) }
+    ensures exits { let n = vec_len scripts + 1 in IfOk result (λ after.
+        EndsPart (all_exits_of (take n after.items)) [] (list_at after.items n)) }
 {
     let mut main = seats.pop().unwrap();
     let mut seats = drive(rt, layer, seats, scripts, Some(turns), &OpenGate)?;
@@ -105,8 +106,8 @@ fn end_part<O: Origin>(
 pub fn open_field<R: Wait>(rt: &R, alloc: Global, workers: u32) -> Result<Field, RaceFault>
     requires { (1 ≤ workers) × (workers ≤ MAX_WORKERS) }
     ensures fresh { IfOk result (λ field. AreFresh (workers + 2) field.seats.items) }
-    ensures begun { IfOk result (λ field. (steps seed budget : ℕ)
-        → Continues workers steps seed budget 0 field.book) }
+    ensures begun { IfOk result (λ field. (steps seed budget checkpoint : ℕ)
+        → Continues workers steps seed budget checkpoint 0 field.book) }
 {
     let (layer, seats) = Layer::open(alloc, workers + 2)?;
     let seats = start(rt, &layer, seats, workers)?;
@@ -129,6 +130,7 @@ pub fn race_part<O: Origin + Send, R: Threads + Wait + Sync>(
         let P = IsOfPart steps turns.turns turns.budget in
         IfOk result (λ raced. (book : BookView)
         × IsPart O.begins (vec_len scripts + 2) P book
+        × ChildrenExitInPart (vec_len scripts) book.log
         × (raced.0.book ≡ taken book)
         × (raced.1 ≡ worker_steps (vec_len scripts) book.log)) }
 {
@@ -141,18 +143,18 @@ pub fn race_part<O: Origin + Send, R: Threads + Wait + Sync>(
     Ok((field, steps))
 }
 
-/// Makes a last pass, and counts the files that are live after it.
-pub fn last_part<O: Origin, R: Wait>(rt: &R, field: Field, workers: u32) -> Result<usize, RaceFault>
+/// Makes a last pass, and returns the book after it.
+pub fn last_part<O: Origin, R: Wait>(rt: &R, field: Field, workers: u32) -> Result<Book, RaceFault>
     requires workers { workers ≤ MAX_WORKERS }
     requires origin { O.begins field.book.seats field.book.start }
     requires fresh { AreFresh (workers + 2) field.seats.items }
-    ensures { IfOk result (λ left. (book : BookView)
+    ensures { IfOk result (λ last. (book : BookView)
         × IsPart O.begins (workers + 2) (IsOfEnd workers) book
-        × (left ≡ finmap.len book.machine.world.files)) }
+        × (last ≡ taken book)) }
 {
     let Field { book, seats } = field;
     let layer = Layer::<O>::of(book);
     let seats = finish(rt, &layer, seats, workers)?;
-    let (field, _) = end_part(layer, seats)?;
-    Ok(field.book.engine().live())
+    let (Field { book, .. }, _) = end_part(layer, seats)?;
+    Ok(book)
 }

@@ -1,13 +1,16 @@
-use Rattle.std.proofs.Common.{◌∙◌}
-use Rattle.scmgc.specs.Race.{race_lines}
+use Rattle.std.proofs.Common.{sym, ◌∙◌}
+use Rattle.scmgc.specs.Race.{race_lines, with_log}
 use Rattle.scmgc.proofs.program.long_race_text.Goals as goal
 
 pub returns : goal.returns
 returns g c =
-    let told = c.in_ok-totals.ensures in
+    let told = c.in_ok-outcome.ensures in
+    let log = told.raced in
+    let counted = c.totals-totals.ensures in
+    let steps = counted.steps ∙ log.2 in
     record {
-      book = told.0;
-      raced = told.1;
-      all_steps = told.2;
-      lines = c.in_ok-text.ensures ∙ (λ i. race_lines (told.3 i) (told.4 i));
+      book = with_log c.in_ok-outcome.outcome.book log.0;
+      raced = log.1;
+      all_steps = sym log.2 ∙ told.steps;
+      lines = c.in_ok-text.ensures ∙ (λ i. race_lines (steps i) (counted.left i));
     }

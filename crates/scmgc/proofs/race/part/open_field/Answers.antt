@@ -9,8 +9,8 @@ start-requires-clause-fresh g c =
     open-fresh (c.args.workers + 2) c.in_ok-layer.seats.items count c.in_ok-layer.ensures.seats
 
 pub returns-clause-begun : goal.returns-clause-begun
-returns-clause-begun g c = λ steps seed budget.
+returns-clause-begun g c = λ steps seed budget checkpoint.
     let workers = c.args.workers in
     let ended = c.in_ok-field.ensures in
-    goes-first workers steps seed budget ended.0 c.in_ok-field.field.book ended.5 ended.2 ended.1
+    goes-first workers steps seed budget checkpoint ended.0 c.in_ok-field.field.book ended.5 ended.2 ended.1
     (log-has (workers + 2) (IsOfStart workers) ended.0 c.in_ok-seats.seats.items c.in_ok-seats.ensures ended.3)

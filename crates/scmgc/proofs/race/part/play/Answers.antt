@@ -3,13 +3,14 @@ use Rattle.std.specs.Prelude.{Vec, option_to_list}
 use Rattle.std.proofs.Common.{Global}
 use Rattle.std.proofs.lemmas.List.{length-map}
 use Rattle.af_base.specs.declared.events.Event.{Event}
-use Rattle.af_layer.specs.Drive.{Driven, Made}
-use Rattle.scmgc.proofs.race.Parts.{seats-played}
+use Rattle.af_layer.specs.Drive.{Driven, Made, WentOn}
+use Rattle.scmgc.specs.Race.{all_exits_of}
+use Rattle.scmgc.proofs.race.Parts.{seats-exited, seats-played}
 use Rattle.scmgc.proofs.race.Works.{scripts-work}
 use Rattle.scmgc.proofs.race.part.play.Goals as goal
 
-pub returns : goal.returns
-returns g c =
+pub returns-clause-lists : goal.returns-clause-lists
+returns-clause-lists g c =
     let split : c.args.seats.items ≡ c.pop.new.self.items ++ c.unwrap-main.result ∷ [] = c.pop.ensures.items ∙ ap (λ o. c.pop.new.self.items ++ option_to_list o) c.unwrap-main.ensures in
     let scripts = c.args.scripts.items in
     let events : Vec Event Global → List Event = λ v. v.items in
@@ -19,3 +20,13 @@ returns g c =
     (map events scripts) turns.turns turns.budget (length-map scripts events ∙ many) c.in_ok-seats.seats.items c.push.new.self.items c.end_pass.new.main
     (subst (λ works. Driven Made c.pop.new.self.items works c.in_ok-seats.seats.items) (scripts-work scripts turns) c.in_ok-seats.ensures.done)
     c.in_ok-push.ensures.items (c.end_pass.ensures.number ∙ c.end_children.ensures.number)
+
+pub returns-clause-exits : goal.returns-clause-exits
+returns-clause-exits g c =
+    let split : c.args.seats.items ≡ c.pop.new.self.items ++ c.unwrap-main.result ∷ [] = c.pop.ensures.items ∙ ap (λ o. c.pop.new.self.items ++ option_to_list o) c.unwrap-main.ensures in
+    let driven = c.in_ok-seats.seats.items in
+    let lent : c.as_slice.result.now ≡ driven = search rules in
+    let exited = c.in_ok-end_children.ensures.exits in
+    seats-exited (vec_len c.args.scripts) c.args.seats.items c.pop.new.self.items c.unwrap-main.result c.requires.fresh split
+    driven c.push.new.self.items c.end_pass.new.main c.in_ok-seats.ensures.done.count c.in_ok-push.ensures.items
+    (c.end_children.new.main.list, subst (λ seats. WentOn c.unwrap-main.result.list (all_exits_of seats) c.end_children.new.main.list) lent exited, c.in_ok-end_pass.ensures.ended)

@@ -11,7 +11,7 @@ abbrev pub invariant-loop-done : goal.invariant-loop-done
 invariant-loop-done g l = record {
   few : l.done ≤ l.steps;
   fresh : AreFresh (l.workers + 2) l.field.seats.items;
-  goes_on : Continues l.workers l.steps l.seed l.self.race.budget l.done l.field.book;
+  goes_on : Continues l.workers l.steps l.seed l.self.race.budget l.self.checkpoint l.done l.field.book;
   left : AreLeft l.workers l.steps l.seed l.done l.sources.items;
   counted : l.counted ≡ l.workers * l.done;
 }
