@@ -3,7 +3,7 @@
 use crate::play::holders::{HeldFile, Holder, places_of};
 use af_base::ids::Ino;
 use af_base::listing::{ListedFile, ListedTable};
-use af_plain::garbage;
+use af_plain::reached;
 use af_steps::Engine;
 use std::alloc::{AllocError, Global};
 
@@ -37,11 +37,10 @@ fn push_holders<'a>(
 }
 
 /// Appends the number of a file, and whether it is garbage.
-fn push_file(text: &mut String, ino: Ino, lost: &[Ino]) -> Result<(), AllocError> {
-    let mark = if lost.binary_search(&ino).is_ok() {
-        " (garbage)"
-    } else {
-        ""
+fn push_file(text: &mut String, ino: Ino, reached: &[Ino]) -> Result<(), AllocError> {
+    let mark = match reached.binary_search(&ino) {
+        Ok(_) => "",
+        Err(_) => " (garbage)",
     };
     write!(text, "file {ino}{mark}:")
 }
@@ -50,12 +49,12 @@ fn push_file(text: &mut String, ino: Ino, lost: &[Ino]) -> Result<(), AllocError
 fn push_files(
     text: &mut String,
     files: &[ListedFile],
-    lost: &[Ino],
+    reached: &[Ino],
     places: &[HeldFile],
 ) -> Result<(), AllocError> {
     let mut rest = places;
     for file in files {
-        push_file(text, file.ino, lost)?;
+        push_file(text, file.ino, reached)?;
         rest = push_holders(text, file.ino, rest)?;
         text.push_str("\n")?;
     }
@@ -67,11 +66,11 @@ fn text_of(
     alloc: Global,
     tables: &[ListedTable],
     files: &[ListedFile],
-    lost: &[Ino],
+    reached: &[Ino],
 ) -> Result<Vec<u8>, AllocError> {
     let places = places_of(alloc, tables, files)?;
     let mut text = String::new(alloc);
-    push_files(&mut text, files, lost, places.as_slice())?;
+    push_files(&mut text, files, reached, places.as_slice())?;
     Ok(text.into_bytes())
 }
 
@@ -83,6 +82,6 @@ fn text_of(
 /// only if memory for the text is refused.
 pub fn holders(alloc: Global, engine: &Engine) -> Result<Vec<u8>, AllocError> {
     let listing = engine.listing()?;
-    let lost = garbage(alloc, &listing)?;
-    text_of(alloc, listing.tables(), listing.files(), lost.as_slice())
+    let found = reached(alloc, &listing)?;
+    text_of(alloc, listing.tables(), listing.files(), found.as_slice())
 }
