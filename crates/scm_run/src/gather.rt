@@ -12,7 +12,7 @@ use crate::watched::Watched;
 use crate::writes::{WriteFailed, write_whole};
 use std::io::Write;
 
-/// Gathered text is written once it has more bytes than this, and before each read.
+/// Gathered text is written once it has more than `GATHERED` bytes, and before each read.
 const GATHERED: usize = 65_536;
 
 /// Writes what is gathered.

@@ -71,8 +71,8 @@ pub fn answer(alloc: Global, engine: &mut Engine, says: Line, text: &mut Vec<u8>
     }
 }
 
-/// Reads a line of any form, does what it says, and appends its text. It is a function of its own,
-/// so that an event's line zeroes no local of other lines.
+/// Reads a line of any form, does what it says, and appends its text.
+// Kept apart: DECISIONS.md, "Answers are zeroed".
 #[inline(never)]
 fn do_any(
     alloc: Global,
@@ -91,8 +91,8 @@ fn do_any(
     Ok(answer(alloc, engine, says, text))
 }
 
-/// Reads a line that begins with no process, does what it says, and appends its text. It is a
-/// function of its own, so that a process's step zeroes no local of other events.
+/// Reads a line that begins with no process, does what it says, and appends its text.
+// Kept apart: DECISIONS.md, "Answers are zeroed".
 #[inline(never)]
 fn do_keyword(
     alloc: Global,
@@ -139,9 +139,9 @@ fn do_bytes(
     }
 }
 
-/// Does the line of this number, appends its text to the gathered text, and returns how many events
-/// it did. Whether it can be read depends on the version that the lines before it set, and it may
-/// set one.
+/// Does the line numbered `number`, appends its text to the gathered text, and returns how many
+/// events it did. Whether it can be read depends on the version that the lines before it set, and it
+/// may set one.
 #[tactic(auto, using(crate::proofs::StepLemmas::line_done, crate::proofs::StepLemmas::line_stops, crate::proofs::StepLemmas::line_starves))]
 pub fn do_line<W: Write>(
     alloc: Global,

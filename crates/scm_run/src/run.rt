@@ -87,7 +87,7 @@ fn unless_empty<'a>(first: &'a [u8], second: &'a [u8]) -> &'a [u8]
     if first.is_empty() { second } else { first }
 }
 
-/// Returns whether a line that begins with these bytes may be short enough.
+/// Returns whether a line that begins with `bytes` may be short enough.
 ///
 /// A carriage return may still belong to the line's end.
 fn may_fit(bytes: &[u8]) -> bool
@@ -111,7 +111,7 @@ impl ScriptRun {
         })
     }
 
-    /// Does the line that the pending bytes begin and these bytes end. Its line feed comes next.
+    /// Does the line that the pending bytes begin and `back` ends. Its line feed comes next.
     fn end_line<W: Write>(
         &mut self,
         alloc: Global,
@@ -174,8 +174,8 @@ impl ScriptRun {
         }
     }
 
-    /// Does each line whose line feed is among these next bytes of the script, and keeps the bytes
-    /// after the last one.
+    /// Does each line whose line feed is in `bytes`, the next ones of the script, and keeps the
+    /// bytes after the last one.
     fn do_lines<W: Write>(
         &mut self,
         alloc: Global,
@@ -324,7 +324,8 @@ impl ScriptRun {
 /// Neither stream may have failed before. Lines are cut as by `str::lines`: a last line needs no
 /// line feed. Memory does not grow with the length of the script: a line that is too long is
 /// refused as soon as that is known. After a fault nothing more is read or written; a read or write
-/// that was interrupted is a failed one. How far beyond a bad line the reader was read is not said.
+/// that was interrupted is a failed one. The reader may have been read past a bad line, by any
+/// amount.
 pub fn run_script<R: Read, W: Write>(
     alloc: Global,
     reader: &mut Watched<R>,

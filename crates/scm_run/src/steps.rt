@@ -88,7 +88,7 @@ fn send(
     Ok(())
 }
 
-// A receive and a peek are functions of their own, so that no other step zeroes their answers.
+// A receive and a peek are kept apart: DECISIONS.md, "Answers are zeroed".
 
 /// Does `P recv N N N`.
 #[inline(always)]
