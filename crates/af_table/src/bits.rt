@@ -77,8 +77,8 @@ impl Bits {
         None
     }
 
-    /// Returns the least number that is not in the set, if it is below `end`. It compares with
-    /// `end` last, so a search past full words takes one comparison for each.
+    /// Returns the least number that is not in the set, if it is below `end`. Compares with `end`
+    /// last, so a search past full words takes one comparison for each.
     #[inline(always)]
     pub fn first_zero(&self, end: u32) -> Option<u32>
         requires { end ≤ MAX_NOFILE }
@@ -96,8 +96,8 @@ impl Bits {
         None
     }
 
-    /// Returns a bound above each number of the set that is below this one: one more than a number
-    /// of the set, or 0. Looks at no word behind that of this number.
+    /// Returns a bound above each number of the set that is below `below`: one more than a number
+    /// of the set, or 0. Looks at no word behind that of `below`.
     pub fn end_below(&self, below: u32) -> u32
         requires { below ≤ MAX_NOFILE }
         ensures free { (q : ℕ) → result ≤ q → q < below → is_taken self.now.words q ≡ false }
@@ -113,7 +113,7 @@ impl Bits {
     }
 }
 
-/// Returns the least position in a word from this one on whose bit is as wanted.
+/// Returns the least position in `word`, from `from` on, whose bit is 1 if `set`, else 0.
 #[inline(always)]
 #[tactic(auto, using(crate::proofs::Words::places))]
 fn bit_from(word: u64, from: u32, set: bool) -> Option<u32>
@@ -127,7 +127,7 @@ fn bit_from(word: u64, from: u32, set: bool) -> Option<u32>
     set_bit_from(!word, from)
 }
 
-/// Returns the least position in a word from this one on whose bit is set.
+/// Returns the least position in `word`, from `from` on, whose bit is set.
 #[inline(always)]
 #[tactic(auto, using(crate::proofs::Words::places))]
 fn set_bit_from(word: u64, from: u32) -> Option<u32>

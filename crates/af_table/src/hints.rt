@@ -26,14 +26,14 @@ impl Hints {
         }
     }
 
-    /// Sets the hint for this pid to this index.
+    /// Sets the hint for `pid` to `index`.
     #[inline(always)]
     pub fn set(&mut self, pid: Pid, index: usize) {
         self.indices[pid.0 as usize % HINTS] = index;
     }
 
-    /// Returns the process of this pid, if it is known. Asks the map only if another process is at
-    /// the hint.
+    /// Returns the process of `pid`, if it is known. Asks the map only if another process is at the
+    /// hint.
     #[inline(always)]
     pub fn get<'a>(&self, processes: &'a IndexMap<Pid, Process>, pid: Pid) -> Option<&'a Process>
         ensures { option_copied result ≡ get nat_eq processes.now pid }
@@ -45,7 +45,7 @@ impl Hints {
         }
     }
 
-    /// Returns the index of the process of this pid, if it is known. Asks the map only if another
+    /// Returns the index of the process of `pid`, if it is known. Asks the map only if another
     /// process is at the hint, and keeps the map's answer as the hint.
     #[inline(always)]
     pub fn find(&mut self, processes: &IndexMap<Pid, Process>, pid: Pid) -> Option<usize>
@@ -64,7 +64,7 @@ impl Hints {
     }
 }
 
-/// Asks the map for the process of this pid, if it is known. Few look-ups come here.
+/// Asks the map for the process of `pid`, if it is known. Few look-ups come here.
 #[cold]
 #[inline(never)]
 fn search(processes: &IndexMap<Pid, Process>, pid: Pid) -> Option<&Process>
@@ -73,7 +73,7 @@ fn search(processes: &IndexMap<Pid, Process>, pid: Pid) -> Option<&Process>
     processes.get(&pid)
 }
 
-/// Asks the map for the index of the process of this pid, if it is known.
+/// Asks the map for the index of the process of `pid`, if it is known.
 #[cold]
 #[inline(never)]
 fn search_index(processes: &IndexMap<Pid, Process>, pid: Pid) -> Option<usize>

@@ -14,7 +14,7 @@ use af_base::listing::{ListedNumber, ListedTable};
 use std::alloc::{AllocError, Global};
 
 impl Process {
-    /// Returns its open descriptors as a plain list, under this pid.
+    /// Returns the open descriptors as a plain list, under `pid`.
     pub(crate) fn list_table(&self, alloc: Global, pid: Pid) -> Result<ListedTable, AllocError>
         ensures pid { IfOk result (λ t. t.pid ≡ pid) }
         ensures shown { IfOk result (λ t. process_of t ≡ bare_process self.now.process) }

@@ -81,8 +81,8 @@ impl Process {
         }
     }
 
-    /// Copies the process, with all its open descriptors. The memory of this row, which may have
-    /// files of another process, is used for its slots; they end behind its last open one.
+    /// Copies the process, with all its open descriptors. Uses the memory of `row`, which may have
+    /// files of another process, for the slots; they end behind the last open one.
     #[tactic(auto, using(crate::proofs::Tables::table_cuts))]
     pub(crate) fn copy(&self, row: Vec<FileRef>) -> Result<Process, AllocError>
         ensures process { IfOk result (λ p. p.process ≡ self.now.process) }
@@ -101,14 +101,14 @@ impl Process {
         })
     }
 
-    /// Returns its user.
+    /// Returns the process's user.
     pub fn user(&self) -> Uid
         ensures { result ≡ self.now.process.user }
     {
         self.user
     }
 
-    /// Returns its limit on descriptors.
+    /// Returns the limit on descriptors.
     pub fn limit(&self) -> u32
         ensures value { result ≡ self.now.process.limit }
         ensures bound { result ≤ MAX_NOFILE }
@@ -116,8 +116,8 @@ impl Process {
         self.limit
     }
 
-    /// Returns its user, its limit on descriptors, and whether it is privileged, so exempt from the
-    /// bound on its user's descriptors in flight (unix(7), CAP_SYS_RESOURCE).
+    /// Returns the process's user, its limit on descriptors, and whether it is privileged, so
+    /// exempt from the bound on its user's descriptors in flight (unix(7), CAP_SYS_RESOURCE).
     pub fn who(&self) -> (Uid, u32, bool)
         ensures user { result.0 ≡ self.now.process.user }
         ensures limit { result.1 ≡ self.now.process.limit }
@@ -187,7 +187,7 @@ impl Process {
         self.slots.resize_with(self.limit as usize, blank)
     }
 
-    /// Sets its limit. Open descriptors stay open, also at or above the limit.
+    /// Sets the limit. Open descriptors stay open, also at or above it.
     #[inline]
     pub(crate) fn set_limit(&mut self, limit: u32)
         requires { limit ≤ MAX_NOFILE }
@@ -238,7 +238,7 @@ impl Process {
         Some(was)
     }
 
-    /// Returns the least free descriptor from this one on.
+    /// Returns the least free descriptor from `from` on.
     #[inline(always)]
     #[tactic(auto, using(crate::proofs::FreeNumbers::free_changes))]
     pub(crate) fn next_free(&self, from: u32) -> Option<Fd>
@@ -251,7 +251,7 @@ impl Process {
         Some(Fd(n))
     }
 
-    /// Returns the lowest free descriptor, if one below its limit is free (open(2)).
+    /// Returns the lowest free descriptor, if one below the limit is free (open(2)).
     #[inline(always)]
     pub fn lowest(&self) -> Option<Fd>
         ensures { result ≡ slice_get (free_numbers self.now.process) 0 }
@@ -260,7 +260,7 @@ impl Process {
         Some(Fd(n))
     }
 
-    /// Returns the two lowest free descriptors, rising, if it has two.
+    /// Returns the two lowest free descriptors, rising, if there are two.
     #[tactic(auto, using(crate::proofs::FreeNumbers::free_lists))]
     pub fn lowest_two(&self) -> Option<(Fd, Fd)>
         ensures two { IfSome result (λ t. lowest_free 2 self.now.process ≡ t.0 ∷ t.1 ∷ []) }
@@ -271,7 +271,7 @@ impl Process {
         Some((first, second))
     }
 
-    /// Fills an empty list with the lowest free descriptors, rising: this many, or all if there are
+    /// Fills an empty list with the `count` lowest free descriptors, rising, or all if there are
     /// fewer. Takes memory only for more than fit in the value.
     #[inline(always)]
     #[tactic(auto, using(crate::proofs::FreeNumbers::free_lists))]
@@ -298,7 +298,7 @@ impl Process {
         Ok(())
     }
 
-    /// Returns the least open descriptor from this one on, with its file, if there is one. A walk
+    /// Returns the least open descriptor from `from` on, with its file, if there is one. A walk
     /// continues behind each answer.
     #[inline]
     #[tactic(auto, using(crate::proofs::Tables::table_reads))]
@@ -316,7 +316,7 @@ impl Process {
         Some((Fd(n), file))
     }
 
-    /// Returns the files of this descriptor and of those right behind it, up to the first that is
+    /// Returns the files of `fd` and of the descriptors right behind it, up to the first that is
     /// not open.
     #[inline(always)]
     #[tactic(auto, using(crate::proofs::Tables::table_reads))]
@@ -355,7 +355,7 @@ fn blank() -> FileRef
     FileRef::new(Ino(0), 0)
 }
 
-/// Returns whether the descriptor is open, which has this slot.
+/// Returns whether the descriptor `fd`, whose slot is `slot`, is open.
 #[inline(always)]
 fn is_open(taken: &Bits, fd: Fd, slot: &FileRef) -> bool
     requires { is_taken taken.now.words fd ≡ false → slot.now ≡ 0 }
@@ -364,7 +364,7 @@ fn is_open(taken: &Bits, fd: Fd, slot: &FileRef) -> bool
     slot.ino().0 != 0 || taken.has(fd.0)
 }
 
-/// Returns the row with copies of these files in place of what it had.
+/// Returns the row with copies of `files` in place of what it had.
 fn copy_files(mut row: Vec<FileRef>, files: &[FileRef]) -> Result<Vec<FileRef>, AllocError>
     ensures { IfOk result (λ copies. copies.items ≡ files.now) }
 {

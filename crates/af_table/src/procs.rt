@@ -81,7 +81,7 @@ impl Procs {
         Pid(self.next_pid)
     }
 
-    /// Returns the process of that pid, if it is known.
+    /// Returns the process of `pid`, if it is known.
     #[inline(always)]
     #[tactic(auto, using(crate::proofs::Parts::part_changes))]
     pub fn find(&self, pid: Pid) -> Option<&Process>
@@ -92,7 +92,7 @@ impl Procs {
         self.hints.get(&self.processes, pid)
     }
 
-    /// Lends the process of that pid to write to, if it is known.
+    /// Lends the process of `pid` to write to, if it is known.
     #[inline(always)]
     #[tactic(auto, using(crate::proofs::Parts::part_changes))]
     pub fn find_mut(&mut self, pid: Pid) -> Option<&mut Process>
@@ -149,8 +149,8 @@ impl Procs {
         self.find(pid)?.lookup(fd)
     }
 
-    /// Returns the least open descriptor of the process from this one on, with its file, if there
-    /// is one; an unknown process has none. A walk continues behind each answer.
+    /// Returns the least open descriptor of the process from `from` on, with its file, if there is
+    /// one; an unknown process has none. A walk continues behind each answer.
     pub fn next_open(&self, pid: Pid, from: Fd) -> Option<(Fd, FileRef)>
         ensures open { IfSome result (λ e. number_in self.now.processes pid e.0 ≡ Some e.1) }
         ensures low { IfSome result (λ e. e.0 < MAX_NOFILE) }
@@ -244,8 +244,8 @@ impl Procs {
         Ok(child)
     }
 
-    /// Reserves room to install at every descriptor of the process below its limit, if more than 0
-    /// are to come; ignores an unknown process. Changes no process, and on an error nothing.
+    /// Reserves room to install at every descriptor of the process below its limit, unless `count`
+    /// is 0; ignores an unknown process. Changes no process, and on an error nothing.
     #[inline(always)]
     #[tactic(auto, using(af_base::proofs::Trees::changes))]
     pub fn room_for(&mut self, pid: Pid, count: usize) -> Result<(), AllocError>
@@ -359,7 +359,7 @@ impl Procs {
         true
     }
 
-    /// Keeps this row for the next fork, if it has more room than the one that is kept.
+    /// Keeps `row` for the next fork, if it has more room than the one that is kept.
     #[inline(always)]
     fn keep_row(&mut self, row: Vec<FileRef>)
         ensures { self.new ≡ self.old }
