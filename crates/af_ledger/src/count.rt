@@ -41,7 +41,7 @@ impl Count {
         Count { word: 0 }
     }
 
-    /// Returns a copy of these counts.
+    /// Returns a copy of the counts.
     #[inline(always)]
     pub fn duplicate(&self) -> Count
         ensures { result ≡ self.now }
@@ -49,7 +49,7 @@ impl Count {
         Count { word: self.word }
     }
 
-    /// Returns the number of descriptors that refer to it.
+    /// Returns the number of descriptors that refer to the file.
     #[inline(always)]
     pub fn tabled(&self) -> u64
         ensures value { result ≡ self.now.tabled }
@@ -58,7 +58,7 @@ impl Count {
         self.word % IN_QUEUE
     }
 
-    /// Returns the number of places in queues that hold it.
+    /// Returns the number of places in queues that hold the file.
     #[inline(always)]
     pub fn inflight(&self) -> u64
         ensures value { result ≡ self.now.inflight }

@@ -74,7 +74,7 @@ impl Ledger {
         Some((index, *charge))
     }
 
-    /// Sets the charge of the user at this index, which it keeps as the hint.
+    /// Sets the charge of the user at `index`, which becomes the hint.
     #[inline(always)]
     fn set_charge(&mut self, index: usize, charge: u64)
         ensures { (uid was : ℕ) → slice_get self.old.users index ≡ Some (uid, was)
@@ -101,8 +101,7 @@ impl Ledger {
         self.users.len()
     }
 
-    /// Returns the i-th user, counted from 0 in the order in which they were added, if there is
-    /// one.
+    /// Returns user `i`, counted from 0 in the order in which they were added, if there is one.
     pub fn user_at(&self, i: usize) -> Option<Uid>
         ensures { result ≡ slice_get (keys_of self.now.users) i }
     {
@@ -110,10 +109,10 @@ impl Ledger {
         Some(*uid)
     }
 
-    /// Returns whether a user may send this many files by a process of this limit and privilege.
-    /// Fails with ETOOMANYREFS if the user, without privilege, is charged more than the limit
-    /// already, and else with ENOBUFS if too many would be in flight (unix(7)). A message without
-    /// files never fails with ETOOMANYREFS.
+    /// Returns whether a user may send `files` more files, by a process with this limit and
+    /// privilege. Fails with ETOOMANYREFS if the user, without privilege, is charged more than the
+    /// limit already, and else with ENOBUFS if too many would be in flight (unix(7)). A message
+    /// without files never fails with ETOOMANYREFS.
     #[inline(always)]
     pub fn may_send(
         &self,
@@ -151,7 +150,7 @@ impl Ledger {
         Ok(())
     }
 
-    /// Raises the charge of a known user by this many units. Takes no memory.
+    /// Raises the charge of a known user by `units`. Takes no memory.
     #[inline(always)]
     #[tactic(auto, using(crate::proofs::Users::user_changes))]
     pub fn charge(&mut self, uid: Uid, units: u64)
@@ -168,7 +167,7 @@ impl Ledger {
         }
     }
 
-    /// Lowers the charge of a user by this many units; it is at least as many. Takes no memory.
+    /// Lowers the charge of a user by `units`; it is at least as many. Takes no memory.
     #[inline(always)]
     #[tactic(auto, using(crate::proofs::Users::user_changes))]
     pub fn uncharge(&mut self, uid: Uid, units: u64)

@@ -28,8 +28,8 @@ impl Model for Backlog {
 }
 
 impl Backlog {
-    /// Makes an empty backlog for at most this many embryos (listen(2)). Takes all the memory that
-    /// it ever needs.
+    /// Makes an empty backlog for at most `most` embryos (listen(2)). Takes all the memory that it
+    /// ever needs.
     pub fn new(alloc: Global, most: u32) -> Result<Backlog, AllocError>
         ensures { IfOk result (λ b. b ≡ record { waiting = []; most = most }) }
     {

@@ -56,7 +56,7 @@ impl Names {
         Ok(())
     }
 
-    /// Frees the name; nothing changes if it is free. Takes no memory.
+    /// Frees `name`; nothing changes if it is free. Takes no memory.
     #[tactic(auto, using(crate::proofs::NameMaps::name_changes))]
     pub fn unbind(&mut self, name: &[u8])
         ensures { self.new ≡ map.remove self.old name.now }

@@ -44,7 +44,7 @@ impl Mark {
         Mark { epoch: 0, shade: 0 }
     }
 
-    /// Makes a mark of a file that is scanned in this pass.
+    /// Makes a mark of a file that is scanned in the pass `epoch`.
     #[inline(always)]
     pub fn black(epoch: u32) -> Mark
         ensures { result ≡ black_mark epoch }
@@ -53,7 +53,7 @@ impl Mark {
         Mark { epoch, shade }
     }
 
-    /// Makes a mark of a file that is to be scanned in this pass, with its position in the list.
+    /// Makes a mark of a file to be scanned in the pass `epoch`, at the position `at` of the list.
     #[inline(always)]
     pub fn grey(epoch: u32, at: usize) -> Mark
         ensures { result ≡ grey_mark epoch }
@@ -62,7 +62,7 @@ impl Mark {
         Mark { epoch, shade }
     }
 
-    /// Returns the colour in this pass.
+    /// Returns the colour in the pass `epoch`.
     #[inline(always)]
     pub fn color_in(&self, epoch: u32) -> Color
         ensures { result ≡ color_in epoch self.now }
@@ -77,7 +77,7 @@ impl Mark {
         }
     }
 
-    /// Returns whether it is grey in this pass.
+    /// Returns whether the file is grey in the pass `epoch`.
     #[inline(always)]
     pub fn is_grey_in(&self, epoch: u32) -> bool
         ensures { result ≡ is_grey_color (color_in epoch self.now) }
@@ -91,7 +91,7 @@ impl Mark {
         self.shade.saturating_sub(1) as usize
     }
 
-    /// Sets that position, if the file is grey. Does not change its colour.
+    /// Sets the position, if the file is grey. Does not change its colour.
     #[inline(always)]
     pub fn set_position(&mut self, at: usize)
         ensures { self.new ≡ self.old }

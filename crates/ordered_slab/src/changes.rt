@@ -12,7 +12,7 @@ use af_base::limits::MAX_INO;
 use slab::Slab;
 use std::alloc::AllocError;
 
-/// Reserves room for this many values more: then `put` needs no memory for them. Changes no value,
+/// Reserves room for `values` more values: then `put` needs no memory for them. Changes no value,
 /// also on an error.
 #[inline(always)]
 pub fn reserve<T>(
@@ -63,8 +63,7 @@ pub fn put<T>(order: &mut Order, slab: &mut Slab<NumberedValue<T>>, ino: Ino, va
     file
 }
 
-/// Removes the value under this reference's number, and returns it, if there is one. Takes no
-/// memory.
+/// Removes the value under the number of `file`, and returns it, if there is one. Takes no memory.
 #[inline(always)]
 #[tactic(auto, using(crate::proofs::SlabValues::comes_and_goes))]
 pub fn take<T>(order: &mut Order, slab: &mut Slab<NumberedValue<T>>, file: &FileRef) -> Option<T>

@@ -75,7 +75,7 @@ impl<T> OrderedSlab<T> {
             .min(self.slab.capacity() - self.slab.len())
     }
 
-    /// Reserves room for this many values more: then `push` needs no memory for them, and no other
+    /// Reserves room for `values` more values: then `push` needs no memory for them, and no other
     /// call ever does. Nothing else changes, also on an error.
     #[inline(always)]
     #[tactic(auto, using(crate::proofs::SlabValues::comes_and_goes))]
@@ -107,7 +107,7 @@ impl<T> OrderedSlab<T> {
         put(&mut self.order, &mut self.slab, ino, value)
     }
 
-    /// Removes the value under this reference's number, and returns it, if there is one. Takes no
+    /// Removes the value under the number of `file`, and returns it, if there is one. Takes no
     /// memory.
     #[inline(always)]
     #[tactic(auto, using(crate::proofs::SlabValues::comes_and_goes))]
@@ -122,7 +122,7 @@ impl<T> OrderedSlab<T> {
         take(&mut self.order, &mut self.slab, file)
     }
 
-    /// Returns the value under this reference's number, if there is one.
+    /// Returns the value under the number of `file`, if there is one.
     #[inline(always)]
     #[tactic(auto, using(crate::proofs::SlabValues::finds))]
     pub fn get(&self, file: &FileRef) -> Option<&T>
@@ -138,7 +138,7 @@ impl<T> OrderedSlab<T> {
         Some(&entry.value)
     }
 
-    /// Lends the value under this reference's number to write to, if there is one.
+    /// Lends the value under the number of `file` to write to, if there is one.
     #[inline(always)]
     #[tactic(auto, using(crate::proofs::SlabValues::finds))]
     pub fn get_mut(&mut self, file: &FileRef) -> Option<&mut T>
@@ -154,7 +154,7 @@ impl<T> OrderedSlab<T> {
         Some(&mut self.slab[key].value)
     }
 
-    /// Returns a reference to the value of this number, if there is one, by a search. A look-up by
+    /// Returns a reference to the value of `ino`, if there is one, by a search. A look-up by
     /// `FileRef` needs none if its hint is right.
     #[tactic(auto, using(crate::proofs::SlabValues::finds))]
     pub fn find(&self, ino: Ino) -> Option<FileRef>
@@ -166,9 +166,9 @@ impl<T> OrderedSlab<T> {
         Some(FileRef::new(ino, key))
     }
 
-    /// Returns the least number above this one that has a value, if there is one, and the position
-    /// behind it in the order. This number need not have a value. A walk passes the last answer,
-    /// and needs no search; the position is a hint.
+    /// Returns the least number above `ino` that has a value, if there is one, and the position
+    /// behind it in the order. `ino` need not have a value. A walk passes the last answer, and
+    /// needs no search; the position `at` is a hint.
     #[inline(always)]
     #[tactic(auto, using(crate::proofs::SlabValues::finds))]
     pub fn next_after(&self, ino: Ino, at: usize) -> Option<(FileRef, usize)>

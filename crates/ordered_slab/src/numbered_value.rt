@@ -18,7 +18,7 @@ pub struct NumberedValue<T> {
     pub value: T,
 }
 
-/// Returns whether the entry at this key is this file's.
+/// Returns whether the entry at `key` is that of `file`.
 #[inline(always)]
 pub fn stands_at<T>(slab: &Slab<NumberedValue<T>>, key: usize, file: &FileRef) -> bool
     ensures { IsTrue result → option_map (λ x. x.file) (slots.get slab.now key) ≡ Some file.now }
@@ -29,8 +29,8 @@ pub fn stands_at<T>(slab: &Slab<NumberedValue<T>>, key: usize, file: &FileRef) -
     }
 }
 
-/// Returns whether the number of this row has a value: whether the entry at the row's key is of
-/// that number.
+/// Returns whether the row's number has a value: whether the entry at the row's key is of that
+/// number.
 #[inline(always)]
 #[tactic(auto, using(crate::proofs::SlabValues::finds))]
 pub fn is_live<T>(slab: &Slab<NumberedValue<T>>, row: &OrderRow) -> bool

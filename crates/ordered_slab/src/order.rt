@@ -19,7 +19,7 @@ use std::marker::Model;
 use std::mem;
 use std::snapshot::Snapshot;
 
-/// Packing begins if half of all rows are over this many more than the live ones.
+/// Packing begins if half of all rows are over `LEAST_DEAD` more than the live ones.
 const LEAST_DEAD: usize = 32;
 
 /// How many rows a packing reads for each new number: more than one, so that it comes to an end.
@@ -72,7 +72,7 @@ impl Order {
         }
     }
 
-    /// Reserves room for this many numbers more: then `push` needs no memory for them. Nothing else
+    /// Reserves room for `numbers` more numbers: then `push` needs no memory for them. Nothing else
     /// changes, also on an error.
     pub fn reserve(&mut self, numbers: usize) -> Result<(), AllocError>
         ensures same { self.new ≡ record self.old { room = self.new.room } }
@@ -105,7 +105,7 @@ impl Order {
         self.last = Snapshot::of(&ino);
     }
 
-    /// Removes the last row if it is of this number, whose value was removed, and the one before
+    /// Removes the last row if it is that of `file`, whose value was removed, and the one before
     /// it, if that is dead. So numbers that come and go in turn leave no rows.
     #[inline(always)]
     pub fn trim<T>(&mut self, slab: &Slab<NumberedValue<T>>, file: &FileRef)
@@ -138,7 +138,7 @@ impl Order {
         }
     }
 
-    /// Returns the key of the number, if it has a value, by a binary search.
+    /// Returns the key of `ino`, if it has a value, by a binary search.
     #[cold]
     #[inline(never)]
     pub fn key_of<T>(&self, slab: &Slab<NumberedValue<T>>, ino: Ino) -> Option<usize>
@@ -153,9 +153,9 @@ impl Order {
         }
     }
 
-    /// Returns the least number above this one that has a value, if there is one, with its key as a
-    /// hint, and the position behind it for the next call. This number need not be known. The
-    /// position passed in is a hint.
+    /// Returns the least number above `ino` that has a value, if there is one, with its key as a
+    /// hint, and the position behind it for the next call. `ino` need not be known. The position
+    /// `at` is a hint.
     #[inline(always)]
     pub fn next_after<T>(
         &self,
@@ -183,8 +183,8 @@ impl Order {
         }
     }
 
-    /// Returns the answer of `next_after` where the row at this position is of the next number and
-    /// dead, and the row behind it live: two sockets of a pair are often freed together.
+    /// Returns the answer of `next_after` where the row at `at` is of the next number and dead, and
+    /// the row behind it live: two sockets of a pair are often freed together.
     #[inline(always)]
     fn next_but_one<T>(
         &self,
@@ -209,7 +209,7 @@ impl Order {
         Some((next.file().duplicate(), at + 2))
     }
 
-    /// Returns the first row above this number, if it is at this position.
+    /// Returns the first row above `ino`, if it is at the position `at`.
     #[inline(always)]
     fn next_at(&self, ino: Ino, at: usize) -> Option<&OrderRow>
         ensures above { IfSome result (λ row. ino < row.now.ino) }
@@ -303,7 +303,7 @@ impl Order {
     }
 }
 
-/// Returns the key of the number, if it has a value and a row among these.
+/// Returns the key of `ino`, if it has a value and a row in `rows`.
 fn key_in<T>(slab: &Slab<NumberedValue<T>>, rows: &[OrderRow], ino: Ino) -> Option<usize>
     requires place { AreInPlace (keys_of slab.now) slab.now }
     requires rise { Rise rows.now }
@@ -324,7 +324,7 @@ fn key_in<T>(slab: &Slab<NumberedValue<T>>, rows: &[OrderRow], ino: Ino) -> Opti
     }
 }
 
-/// Returns the position of the first live row from this one to that end, or the end.
+/// Returns the position of the first live row from `from` to `end`, or `end`.
 #[inline(always)]
 fn first_live<T>(slab: &Slab<NumberedValue<T>>, rows: &[OrderRow], from: usize, end: usize) -> usize
     requires place { AreInPlace (keys_of slab.now) slab.now }
@@ -346,8 +346,8 @@ fn first_live<T>(slab: &Slab<NumberedValue<T>>, rows: &[OrderRow], from: usize, 
     end
 }
 
-/// Returns the least number above this one that has a value, among these rows, and the position
-/// behind it. The position passed in is a hint.
+/// Returns the least number above `ino` that has a value and a row in `rows`, and the position
+/// behind it. The position `at` is a hint.
 #[inline(always)]
 fn next_in<T>(
     slab: &Slab<NumberedValue<T>>,
@@ -377,7 +377,7 @@ fn next_in<T>(
     Some((rows[at].file().duplicate(), at + 1))
 }
 
-/// Returns how many rows have a number up to this one. Tries this position first. Most numbers are
+/// Returns how many rows have a number up to `ino`. Tries the position `at` first. Most numbers are
 /// consecutive, so next it computes the position from the number of the last row.
 fn rows_up_to(rows: &[OrderRow], ino: Ino, at: usize) -> usize
     requires { Rise rows.now }
@@ -399,7 +399,7 @@ fn rows_up_to(rows: &[OrderRow], ino: Ino, at: usize) -> usize
     rows.partition_point(|row| row.number().0 <= number)
 }
 
-/// Returns whether the row before this position has a number up to this one, and the row at it one
+/// Returns whether the row before the position `at` has a number up to `ino`, and the row at it one
 /// above, as far as there are such rows.
 #[inline(always)]
 fn is_between(rows: &[OrderRow], ino: Ino, at: usize) -> bool
