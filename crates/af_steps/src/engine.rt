@@ -157,8 +157,8 @@ impl Engine {
         }
     }
 
-    /// Does these events in order, and returns their replies. If memory for one more reply is
-    /// refused, the error has the replies of the events that were done.
+    /// Does `events` in order, and returns their replies. If memory for one more reply is refused,
+    /// the error has the replies of the events that were done.
     pub fn run(&mut self, events: &[Event]) -> Result<Vec<Reply>, RunStopped>
         ensures whole { IfOk result (λ replies. length replies.items ≡ length events.now) }
         ensures run { IfOk result (λ replies.

@@ -85,9 +85,9 @@ struct ReceivingSocket {
 }
 
 impl Engine {
-    /// Sends bytes from a process, with the files of these descriptors (sendmsg(2)): the step
-    /// `Send` of that process, for a caller that keeps the bytes and descriptors. They are copied
-    /// once. Returns how many bytes were sent. Refused, in this order: ESRCH, EBADF, ENOTSOCK,
+    /// Sends bytes from a process, with the files of the descriptors `attach` (sendmsg(2)): the
+    /// step `Send`, for a caller that keeps the bytes and descriptors. They are copied once.
+    /// Returns how many bytes were sent. Refused, in this order: ESRCH, EBADF, ENOTSOCK,
     /// EINVAL (no byte, or over 253 descriptors), EMSGSIZE (over 65,536 bytes), EBADF of an
     /// attached descriptor, ENOTCONN, EPIPE, ETOOMANYREFS, ENOBUFS, EAGAIN, ENOMEM.
     pub fn send(&mut self, pid: Pid, on: Fd, bytes: &[u8], attach: &[Fd]) -> Result<u32, Errno>
@@ -234,8 +234,8 @@ impl Engine {
     }
 }
 
-/// Returns whether a process may send these bytes with these descriptors, or why not. Appends the
-/// files of the descriptors to an empty list, or none if memory is refused.
+/// Returns whether a process may send `bytes` with the descriptors `attach`, or why not. Appends
+/// their files to an empty list, or none if memory is refused.
 #[inline(always)]
 fn check_parts(
     process: &Process,
@@ -269,7 +269,7 @@ fn check_parts(
     Ok(())
 }
 
-/// Reserves room for this many files in an empty list. Two files need no memory.
+/// Reserves room for `count` files in an empty list. Two files need no memory.
 #[inline(always)]
 fn reserve_files(files: &mut Attached, count: usize) -> Result<(), AllocError>
     requires empty { files.old.items ≡ [] }
@@ -297,8 +297,8 @@ fn peer_of(socket: &Socket) -> Result<FileRef, Errno>
     }
 }
 
-/// Returns the user of a process, who is charged for this many descriptors; or why they may not be
-/// in flight, or the queue of the peer has no room.
+/// Returns the user of a process, who is charged for `count` descriptors; or why they may not be in
+/// flight, or the queue of the peer has no room.
 #[inline(always)]
 fn check_room(store: &Store, process: &Process, peer: &FileRef, count: usize) -> Result<Uid, Errno>
     ensures user { IfOk result (λ user. user ≡ process.now.process.user) }
@@ -422,7 +422,7 @@ fn make_room(
     store.room_for(pid, fds.len())
 }
 
-/// Returns whether this many bytes can be received from the socket, or why not.
+/// Returns whether `max_bytes` bytes can be received from the socket, or why not.
 #[inline(always)]
 pub(crate) fn check_receive(socket: &Socket, max_bytes: u32) -> Result<(), Errno>
     ensures ok { OnOk result (first_fit (on_receive socket.now max_bytes) ≡ None) }
@@ -438,8 +438,8 @@ pub(crate) fn check_receive(socket: &Socket, max_bytes: u32) -> Result<(), Errno
     }
 }
 
-/// Returns the answer to a receive or a peek, whose first files were installed at these
-/// descriptors.
+/// Returns the answer to a receive or a peek, whose first files were installed at the descriptors
+/// `fds`.
 #[inline(always)]
 fn receive_answer(taken: Taken, fds: FreeFds) -> Received
     ensures { result ≡ Received.Got taken.message.bytes fds.items taken.trunc

@@ -49,8 +49,8 @@ impl From<Progress> for Reply {
 }
 
 impl Engine {
-    /// Begins a pass over the present files. It costs the same for any number of files, except once
-    /// in 2^32 passes. Returns its number. Refused with EBUSY while a pass runs.
+    /// Begins a pass over the present files. Costs the same for any number of files, except once in
+    /// 2^32 passes. Returns its number. Refused with EBUSY while a pass runs.
     pub fn begin(&mut self) -> Result<u64, Errno>
         ensures done { IfOk result (λ number.
             Begins self.old.pass self.old (Reply.Started number) self.new) }
@@ -65,7 +65,7 @@ impl Engine {
         Ok(self.last_pass)
     }
 
-    /// Continues the running pass, by at most this many units: each visits, scans or sweeps one
+    /// Continues the running pass by at most `budget` units: each visits, scans or sweeps one
     /// file. Refused with EIDLE where none runs, and else with EINVAL where the budget is not 1 to
     /// 65,536.
     pub fn slice(&mut self, budget: u32) -> Result<Progress, Errno>

@@ -22,7 +22,7 @@ use af_desc::Socket;
 impl Engine {
     /// Returns what a descriptor of a process is ready for (poll(2)): what its next receive, accept
     /// or send finds. A plain file is always readable and writable. Refused, in this order: ESRCH,
-    /// EBADF. It needs no memory.
+    /// EBADF. Takes no memory.
     pub fn poll(&self, pid: Pid, fd: Fd) -> Result<Ready, Errno>
         ensures ready { IfOk result (λ r.
             ready self.now.world (ino_on self.now.world pid fd) ≡ Some r) }
@@ -34,7 +34,7 @@ impl Engine {
         Ok(self.ready_at(&file))
     }
 
-    /// Returns what the file of this reference, which is live, is ready for (poll(2)). No search.
+    /// Returns what `file`, which is live, is ready for (poll(2)). No search.
     pub fn ready_at(&self, file: &FileRef) -> Ready
         requires { IsLive self.now.world file.now }
         ensures { ready self.now.world file.now ≡ Some result }

@@ -62,8 +62,8 @@ impl Engine {
         Ok(())
     }
 
-    /// Makes a socket a listener with this backlog (listen(2)). Refused, in this order: ESRCH,
-    /// EBADF, ENOTSOCK, EINVAL (also where the backlog is not 1 to 128), ENOMEM.
+    /// Makes a socket a listener for at most `backlog` embryos (listen(2)). Refused, in this order:
+    /// ESRCH, EBADF, ENOTSOCK, EINVAL (also where `backlog` is not 1 to 128), ENOMEM.
     pub fn listen(&mut self, pid: Pid, on: Fd, backlog: u32) -> Result<(), Errno>
         ensures done { OnOk result (Does self.old pid (Step.Listen on backlog) Reply.Ok self.new) }
         ensures refused { IfErr result (λ e.
@@ -76,8 +76,8 @@ impl Engine {
         Ok(())
     }
 
-    /// Connects a socket to the listener of this name: to an embryo, which waits there to be
-    /// accepted (connect(2)). Refused, in this order: ESRCH, EBADF, ENOTSOCK, EINVAL, EISCONN,
+    /// Connects a socket to the listener with the name `name`: to an embryo, which waits there to
+    /// be accepted (connect(2)). Refused, in this order: ESRCH, EBADF, ENOTSOCK, EINVAL, EISCONN,
     /// ECONNREFUSED, EPROTOTYPE, EAGAIN, ENFILE, ENOMEM.
     pub fn connect(&mut self, pid: Pid, on: Fd, name: &[u8]) -> Result<(), Errno>
         ensures done { OnOk result
@@ -113,7 +113,7 @@ impl Engine {
     }
 }
 
-/// Returns the socket that connects, the listener of this name, and their type; or why the socket
+/// Returns the socket that connects, the listener of `name`, and their type; or why the socket
 /// cannot connect.
 #[inline(always)]
 fn find_listener(
@@ -141,7 +141,7 @@ fn find_listener(
     Ok((file, listener, kind))
 }
 
-/// Returns whether the socket can have this name, or why not.
+/// Returns whether the socket can have the name `name`, or why not.
 fn check_bind(socket: &Socket, name: &[u8]) -> Result<(), Errno>
     ensures ok { OnOk result (first_fit (on_bind socket.now name.now) ≡ None) }
     ensures err { IfErr result (λ e. first_fit (on_bind socket.now name.now) ≡ Some e) }
@@ -152,7 +152,7 @@ fn check_bind(socket: &Socket, name: &[u8]) -> Result<(), Errno>
     Ok(())
 }
 
-/// Returns whether the socket can become a listener with this backlog, or why not.
+/// Returns whether the socket can become a listener for `backlog` embryos, or why not.
 fn check_listen(socket: &Socket, backlog: u32) -> Result<(), Errno>
     ensures ok { OnOk result (first_fit (on_listen socket.now backlog) ≡ None) }
     ensures err { IfErr result (λ e. first_fit (on_listen socket.now backlog) ≡ Some e) }
@@ -175,7 +175,7 @@ fn check_client(socket: &Socket) -> Result<(), Errno>
     }
 }
 
-/// Returns whether a socket of this type can connect to that one, or why not.
+/// Returns whether a socket of type `kind` can connect to `socket`, or why not.
 fn check_listener(socket: &Socket, kind: SockType) -> Result<(), Errno>
     ensures ok { OnOk result (first_fit (on_listener socket.now kind) ≡ None) }
     ensures err { IfErr result (λ e. first_fit (on_listener socket.now kind) ≡ Some e) }
@@ -213,7 +213,7 @@ fn is_idle(socket: &Socket) -> bool
     matches!(socket.state(), State::Idle)
 }
 
-/// Returns whether these bytes are a name: 1 to 107 digits, letters, `-`, `.` and `_` (unix(7),
+/// Returns whether `bytes` are a name: 1 to 107 digits, letters, `-`, `.` and `_` (unix(7),
 /// sun_path).
 fn is_name(bytes: &[u8]) -> bool
     ensures { result ≡ is_name bytes.now }
@@ -221,14 +221,14 @@ fn is_name(bytes: &[u8]) -> bool
     !bytes.is_empty() && bytes.len() <= MAX_NAME && are_name_bytes(bytes)
 }
 
-/// Returns whether a name may have each of these bytes.
+/// Returns whether a name may have each of `bytes`.
 fn are_name_bytes(bytes: &[u8]) -> bool
     ensures { result ≡ list_all is_name_byte bytes.now }
 {
     bytes.iter().all(|byte| is_name_byte(*byte))
 }
 
-/// Returns whether a name may have this byte.
+/// Returns whether a name may have `byte`.
 fn is_name_byte(byte: u8) -> bool
     ensures { result ≡ is_name_byte byte }
 {

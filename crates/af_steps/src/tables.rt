@@ -11,10 +11,10 @@ use af_base::ids::{Fd, Pid, Uid};
 use af_base::limits::MAX_NOFILE;
 
 impl Engine {
-    /// Starts a process, as after fork(2) and setuid(2), with an empty table and this limit on its
-    /// descriptors (RLIMIT_NOFILE). A privileged one is not held to its user's share of descriptors
-    /// in flight (unix(7), CAP_SYS_RESOURCE). Returns its pid. Refused, in this order: ERANGE (the
-    /// limit is over 1,024), EAGAIN, ENOMEM.
+    /// Starts a process, as after fork(2) and setuid(2), with an empty table and `nofile` as its
+    /// limit on descriptors (RLIMIT_NOFILE). A privileged one is not held to its user's share of
+    /// descriptors in flight (unix(7), CAP_SYS_RESOURCE). Returns its pid. Refused, in this order:
+    /// ERANGE (the limit is over 1,024), EAGAIN, ENOMEM.
     pub fn spawn(&mut self, uid: Uid, nofile: u32, privileged: bool) -> Result<Pid, Errno>
         ensures done { IfOk result (λ pid. Starts self.old uid nofile privileged pid self.new) }
         ensures refused { IfErr result (λ e. RefusesStart self.old nofile e self.new) }
@@ -87,8 +87,8 @@ impl Engine {
         Ok(to)
     }
 
-    /// Closes a descriptor of a process (close(2)). It takes no memory. Refused, in this order:
-    /// ESRCH, EBADF.
+    /// Closes a descriptor of a process (close(2)). Takes no memory. Refused, in this order: ESRCH,
+    /// EBADF.
     pub fn close(&mut self, pid: Pid, fd: Fd) -> Result<(), Errno>
         ensures done { OnOk result (Does self.old pid (Step.Close fd) Reply.Ok self.new) }
         ensures refused { IfErr result (λ e. Refuses self.old pid (Step.Close fd) e self.new) }
@@ -118,7 +118,7 @@ impl Engine {
     }
 
     /// Sets the process's limit on descriptors (setrlimit(2), RLIMIT_NOFILE). Open descriptors stay
-    /// open, also at or above the limit. It takes no memory. Refused, in this order: ESRCH, ERANGE
+    /// open, also at or above the limit. Takes no memory. Refused, in this order: ESRCH, ERANGE
     /// (the limit is over 1,024).
     pub fn limit(&mut self, pid: Pid, nofile: u32) -> Result<(), Errno>
         ensures done { OnOk result (Does self.old pid (Step.Limit nofile) Reply.Ok self.new) }
@@ -133,7 +133,7 @@ impl Engine {
         Ok(())
     }
 
-    /// Ends a process, and closes all its descriptors (_exit(2)). It takes no memory. Refused with
+    /// Ends a process, and closes all its descriptors (_exit(2)). Takes no memory. Refused with
     /// ESRCH alone.
     pub fn exit(&mut self, pid: Pid) -> Result<(), Errno>
         ensures done { OnOk result (Does self.old pid Step.Exit Reply.Ok self.new) }
