@@ -5,8 +5,8 @@ ghost use Rattle.af_base.specs.Counts.{count_in};
 
 use crate::ids::{FileRef, Ino};
 
-/// Returns the position of a file in the list, if it is there. Tries this position first, and then
-/// all from the end.
+/// Returns the position of a file in the list, if it is there. Tries `at` first, and then all from
+/// the end.
 #[inline(always)]
 fn place_of(files: &[FileRef], ino: Ino, at: usize) -> Option<usize>
     ensures some { IfSome result (λ i. slice_get files.now i ≡ Some ino) }
@@ -21,8 +21,8 @@ fn place_of(files: &[FileRef], ino: Ino, at: usize) -> Option<usize>
     files.iter().rposition(|file| file.ino() == ino)
 }
 
-/// Removes the file from the list once, if it is there; the last takes its place. Returns that
-/// position. Tries this position first, and then all from the end. Takes no memory.
+/// Removes the file `ino` from the list once, if it is there; the last takes its place. Returns
+/// that position. Tries `at` first, and then all from the end. Takes no memory.
 #[inline(always)]
 pub fn swap_remove_file(files: &mut Vec<FileRef>, ino: Ino, at: usize) -> Option<usize>
     ensures each { (f : ℕ) → count_in f files.new.items

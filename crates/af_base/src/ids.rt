@@ -52,8 +52,8 @@ impl Model for FileRef {
 }
 
 impl FileRef {
-    /// Makes a reference to the file of this number, whose row has this key. A key of `KEYS` or
-    /// more is cut, and leads to a search.
+    /// Makes a reference to the file numbered `ino`, whose row has the key `key`. A key of `KEYS`
+    /// or more is cut, and leads to a search.
     #[inline(always)]
     pub fn new(ino: Ino, key: usize) -> FileRef
         requires { ino ≤ MAX_INO }

@@ -38,7 +38,7 @@ impl<T, const N: usize> Model for Items<T, N> {
 }
 
 impl<T, const N: usize> Items<T, N> {
-    /// Makes a list of these items. Takes no memory.
+    /// Makes a list of `items`. Takes no memory.
     #[inline(always)]
     pub fn of_small(items: SmallVec<T, N>) -> Items<T, N>
         ensures { result ≡ items.items }
@@ -71,7 +71,7 @@ impl<T, const N: usize> Items<T, N> {
 }
 
 impl<T: MadeWith<Global> + Copy, const N: usize> Items<T, N> {
-    /// Makes a list of these items. Takes no memory.
+    /// Makes a list of `items`. Takes no memory.
     pub fn of(items: Vec<T>) -> Items<T, N>
         ensures { result ≡ items.items }
     {
@@ -111,7 +111,7 @@ impl<T: MadeWith<Global> + Copy, const N: usize> Items<T, N> {
         Ok(())
     }
 
-    /// Appends copies of these items. Takes memory only if they do not fit.
+    /// Appends copies of `items`. Takes memory only if they do not fit.
     #[inline(always)]
     pub fn extend_from_slice(&mut self, items: &[T]) -> Result<(), AllocError>
         ensures ok { OnOk result (self.new ≡ self.old ++ items.now) }
@@ -120,7 +120,7 @@ impl<T: MadeWith<Global> + Copy, const N: usize> Items<T, N> {
         self.items.extend_from_slice(items)
     }
 
-    /// Keeps this many items from that position on, and drops the others. Takes no memory.
+    /// Keeps `count` items from the position `from` on, and drops the others. Takes no memory.
     #[inline(always)]
     pub fn keep(&mut self, from: usize, count: usize)
         requires { from + count ≤ length self.old }

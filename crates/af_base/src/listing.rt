@@ -83,8 +83,8 @@ impl Model for Listing {
 }
 
 impl Listing {
-    /// Lists these tables, by rising pid, and these files, by rising inode number. Takes memory for
-    /// three lists of places, each sorted once.
+    /// Lists `tables`, by rising pid, and `files`, by rising inode number. Takes memory for three
+    /// lists of places, each sorted once.
     pub fn of(
         alloc: Global,
         tables: Vec<ListedTable>,
