@@ -93,7 +93,7 @@ impl Engine {
         ensures done { OnOk result (Does self.old pid (Step.Close fd) Reply.Ok self.new) }
         ensures refused { IfErr result (λ e. Refuses self.old pid (Step.Close fd) e self.new) }
     {
-        // One look finds process and file; the tests for a refusal follow only if nothing was closed.
+        // One look finds process and file. Tests for a refusal follow only if nothing was closed.
         if !self.store.close(pid, fd) {
             self.store.holdings().procs().find(pid).ok_or(Errno::ESRCH)?;
             return Err(Errno::EBADF);
