@@ -122,8 +122,8 @@ impl<T> Owned<T> {
         self.engine.lemma_is_sound();
     }
 
-    /// Opens a plain file, which carries this value (open(2)). Returns its descriptor, the lowest
-    /// free one of the process. A refusal hands the value back, and changes nothing. Refused, in
+    /// Opens a plain file, which carries `value` (open(2)). Returns its descriptor, the lowest free
+    /// one of the process. A refusal hands the value back, and changes nothing. Refused, in
     /// this order: ESRCH, EMFILE, ENFILE, ENOMEM.
     pub fn open(&mut self, pid: Pid, value: T) -> Result<Fd, (Errno, T)>
         ensures done { IfOk result (λ fd.
@@ -224,8 +224,8 @@ impl<T> Owned<T> {
     }
 }
 
-/// Returns a file among these that carries a value, and its position: the first from that position
-/// on, or else the first of all.
+/// Returns one of `files` that carries a value, and its position: the first from `place` on, or else
+/// the first of all.
 fn first_from<T>(values: &OrderedSlab<T>, files: &[Ino], place: usize) -> Option<(usize, FileRef)>
     ensures some { IfSome result (λ found. IsTrue (map.contains_key values.now.values found.1)) }
     ensures listed { IfSome result (λ found. 0 < count_in found.1 files.now) }
@@ -240,7 +240,7 @@ fn first_from<T>(values: &OrderedSlab<T>, files: &[Ino], place: usize) -> Option
     first_with(values, before)
 }
 
-/// Returns the first of these files that carries a value, and its position.
+/// Returns the first of `files` that carries a value, and its position.
 fn first_with<T>(values: &OrderedSlab<T>, files: &[Ino]) -> Option<(usize, FileRef)>
     ensures some { IfSome result (λ found. IsTrue (map.contains_key values.now.values found.1)) }
     ensures listed { IfSome result (λ found. 0 < count_in found.1 files.now) }

@@ -1,4 +1,5 @@
-//! The events. Each but an open leaves the values as they are.
+//! The events: each call does, answers and refuses as the one of `Engine` with its name. Each but an
+//! open leaves the values as they are.
 ghost use Rattle.std.specs.Prelude.{◌≡◌, IfErr, IfOk, OnOk};
 ghost use Rattle.af_base.specs.Pass.{Begins, GoesOn, PassesWhole};
 ghost use Rattle.af_steps.specs.Outcome.{Does, Refuses, RefusesStart, Starts, finished_reply};
@@ -12,10 +13,7 @@ use af_base::items::{Bytes, Fds};
 use af_steps::{Finished, Progress, Received};
 
 impl<T> Owned<T> {
-    /// Starts a process, as after fork(2) and setuid(2), with an empty table and this limit on its
-    /// descriptors (RLIMIT_NOFILE). A privileged one is not held to its user's share of descriptors
-    /// in flight (unix(7), CAP_SYS_RESOURCE). Returns its pid. Refused, in this order: ERANGE (the
-    /// limit is over 1,024), EAGAIN, ENOMEM.
+    /// Starts a process: `Engine::spawn`.
     pub fn spawn(&mut self, uid: Uid, nofile: u32, privileged: bool) -> Result<Pid, Errno>
         ensures done { IfOk result (λ pid.
             Starts self.old.machine uid nofile privileged pid self.new.machine) }
@@ -26,8 +24,7 @@ impl<T> Owned<T> {
         self.engine.spawn(uid, nofile, privileged)
     }
 
-    /// Duplicates a descriptor (dup(2)). Returns the new one, the lowest free one of the process.
-    /// Refused, in this order: ESRCH, EBADF, EMFILE, ENOMEM.
+    /// Duplicates a descriptor: `Engine::dup`.
     pub fn dup(&mut self, pid: Pid, from: Fd) -> Result<Fd, Errno>
         ensures done { IfOk result (λ fd.
             Does self.old.machine pid (Step.Dup from) (Reply.Fd fd) self.new.machine) }
@@ -38,8 +35,7 @@ impl<T> Owned<T> {
         self.engine.dup(pid, from)
     }
 
-    /// Makes the descriptor `to` refer to the file of `from` (dup2(2)); if it is open, it is
-    /// closed first. Returns `to`. Refused, in this order: ESRCH, EBADF, ENOMEM.
+    /// Makes the descriptor `to` refer to the file of `from`: `Engine::dup2`.
     pub fn dup2(&mut self, pid: Pid, from: Fd, to: Fd) -> Result<Fd, Errno>
         ensures done { IfOk result (λ fd.
             Does self.old.machine pid (Step.Dup2 from to) (Reply.Fd fd) self.new.machine) }
@@ -50,7 +46,7 @@ impl<T> Owned<T> {
         self.engine.dup2(pid, from, to)
     }
 
-    /// Closes a descriptor (close(2)). It needs no memory. Refused, in this order: ESRCH, EBADF.
+    /// Closes a descriptor: `Engine::close`.
     pub fn close(&mut self, pid: Pid, fd: Fd) -> Result<(), Errno>
         ensures done { OnOk result
             (Does self.old.machine pid (Step.Close fd) Reply.Ok self.new.machine) }
@@ -61,8 +57,7 @@ impl<T> Owned<T> {
         self.engine.close(pid, fd)
     }
 
-    /// Creates a child with a copy of the table (fork(2)), and returns its pid. Refused, in this
-    /// order: ESRCH, EAGAIN, ENOMEM.
+    /// Makes a child of a process: `Engine::fork`.
     pub fn fork(&mut self, pid: Pid) -> Result<Pid, Errno>
         ensures done { IfOk result (λ child.
             Does self.old.machine pid Step.Fork (Reply.Pid child) self.new.machine) }
@@ -73,8 +68,7 @@ impl<T> Owned<T> {
         self.engine.fork(pid)
     }
 
-    /// Sets the limit on descriptors (setrlimit(2), RLIMIT_NOFILE). Open descriptors stay open. It
-    /// needs no memory. Refused, in this order: ESRCH, ERANGE (the limit is over 1,024).
+    /// Sets a process's limit on descriptors: `Engine::limit`.
     pub fn limit(&mut self, pid: Pid, nofile: u32) -> Result<(), Errno>
         ensures done { OnOk result
             (Does self.old.machine pid (Step.Limit nofile) Reply.Ok self.new.machine) }
@@ -85,8 +79,7 @@ impl<T> Owned<T> {
         self.engine.limit(pid, nofile)
     }
 
-    /// Ends a process and closes its descriptors (_exit(2)). It needs no memory. Refused with
-    /// ESRCH alone.
+    /// Ends a process: `Engine::exit`.
     pub fn exit(&mut self, pid: Pid) -> Result<(), Errno>
         ensures done { OnOk result (Does self.old.machine pid Step.Exit Reply.Ok self.new.machine) }
         ensures refused { IfErr result (λ e.
@@ -96,8 +89,7 @@ impl<T> Owned<T> {
         self.engine.exit(pid)
     }
 
-    /// Creates two sockets that are connected to each other (socketpair(2)), at the two lowest
-    /// free descriptors, in rising order. Refused, in this order: ESRCH, EMFILE, ENFILE, ENOMEM.
+    /// Makes two sockets that are connected to each other: `Engine::pair`.
     pub fn pair(&mut self, pid: Pid, kind: SockType) -> Result<(Fd, Fd), Errno>
         ensures done { IfOk result (λ fds.
             Does self.old.machine pid (Step.Pair kind) (Reply.Fds fds.0 fds.1) self.new.machine) }
@@ -108,8 +100,7 @@ impl<T> Owned<T> {
         self.engine.pair(pid, kind)
     }
 
-    /// Creates a socket (socket(2)) at the lowest free descriptor. Refused, in this order: ESRCH,
-    /// EMFILE, ENFILE, ENOMEM.
+    /// Makes a socket: `Engine::socket`.
     pub fn socket(&mut self, pid: Pid, kind: SockType) -> Result<Fd, Errno>
         ensures done { IfOk result (λ fd.
             Does self.old.machine pid (Step.Socket kind) (Reply.Fd fd) self.new.machine) }
@@ -120,8 +111,7 @@ impl<T> Owned<T> {
         self.engine.socket(pid, kind)
     }
 
-    /// Gives a socket an abstract name (bind(2); unix(7)). Refused, in this order: ESRCH, EBADF,
-    /// ENOTSOCK, EINVAL, EADDRINUSE, ENOMEM.
+    /// Gives a socket an abstract name: `Engine::bind`.
     pub fn bind(&mut self, pid: Pid, on: Fd, name: &[u8]) -> Result<(), Errno>
         ensures done { OnOk result
             (Does self.old.machine pid (Step.Bind on name.now) Reply.Ok self.new.machine) }
@@ -132,8 +122,7 @@ impl<T> Owned<T> {
         self.engine.bind(pid, on, name)
     }
 
-    /// Makes a socket a listener with this backlog (listen(2)). Refused, in this order: ESRCH,
-    /// EBADF, ENOTSOCK, EINVAL (also where the backlog is not 1 to 128), ENOMEM.
+    /// Makes a socket a listener: `Engine::listen`.
     pub fn listen(&mut self, pid: Pid, on: Fd, backlog: u32) -> Result<(), Errno>
         ensures done { OnOk result
             (Does self.old.machine pid (Step.Listen on backlog) Reply.Ok self.new.machine) }
@@ -144,9 +133,7 @@ impl<T> Owned<T> {
         self.engine.listen(pid, on, backlog)
     }
 
-    /// Connects a socket to the listener of this name (connect(2)): to an embryo, which waits
-    /// there to be accepted. Refused, in this order: ESRCH, EBADF, ENOTSOCK, EINVAL, EISCONN,
-    /// ECONNREFUSED, EPROTOTYPE, EAGAIN, ENFILE, ENOMEM.
+    /// Connects a socket to the listener of a name: `Engine::connect`.
     pub fn connect(&mut self, pid: Pid, on: Fd, name: &[u8]) -> Result<(), Errno>
         ensures done { OnOk result
             (Does self.old.machine pid (Step.Connect on name.now) Reply.Ok self.new.machine) }
@@ -157,9 +144,7 @@ impl<T> Owned<T> {
         self.engine.connect(pid, on, name)
     }
 
-    /// Accepts the embryo that waits longest at a listener (accept(2)), at the lowest free
-    /// descriptor. Refused, in this order: ESRCH, EBADF, ENOTSOCK, EINVAL, EAGAIN, EMFILE,
-    /// ENOMEM.
+    /// Accepts the embryo that waits longest at a listener: `Engine::accept`.
     pub fn accept(&mut self, pid: Pid, on: Fd) -> Result<Fd, Errno>
         ensures done { IfOk result (λ fd.
             Does self.old.machine pid (Step.Accept on) (Reply.Fd fd) self.new.machine) }
@@ -170,8 +155,7 @@ impl<T> Owned<T> {
         self.engine.accept(pid, on)
     }
 
-    /// Sends bytes, and with them the files of these descriptors (sendmsg(2)). Returns how many
-    /// bytes were sent. The refusals are those of `Engine::send`.
+    /// Sends bytes, and with them files: `Engine::send`.
     pub fn send(&mut self, pid: Pid, on: Fd, bytes: &[u8], attach: &[Fd]) -> Result<u32, Errno>
         ensures done { IfOk result (λ count. Does self.old.machine pid
             (Step.Send on bytes.now attach.now) (Reply.Sent count) self.new.machine) }
@@ -182,8 +166,7 @@ impl<T> Owned<T> {
         self.engine.send(pid, on, bytes, attach)
     }
 
-    /// Sends bytes that the caller gives away, so that they are not copied. A refusal drops them.
-    /// The refusals are those of `Engine::send`.
+    /// Sends bytes that the caller gives away: `Engine::send_owned`.
     pub fn send_owned(
         &mut self,
         pid: Pid,
@@ -200,9 +183,8 @@ impl<T> Owned<T> {
         self.engine.send_owned(pid, on, bytes, attach)
     }
 
-    /// Receives at most this many bytes and descriptors (recvmsg(2)). A file that gets no
-    /// descriptor may be freed, and `take_released` then hands back its value. The refusals are
-    /// those of `Engine::recv`.
+    /// Receives bytes and descriptors: `Engine::recv`. A file that gets no descriptor may be freed;
+    /// `take_released` then hands back its value.
     pub fn recv(
         &mut self,
         pid: Pid,
@@ -219,8 +201,7 @@ impl<T> Owned<T> {
         self.engine.recv(pid, on, max_bytes, max_fds)
     }
 
-    /// Returns what a receive would take, which stays in the queue (recvmsg(2), MSG_PEEK). The
-    /// refusals are those of `Engine::peek`.
+    /// Returns what a receive would take: `Engine::peek`.
     pub fn peek(
         &mut self,
         pid: Pid,
@@ -237,8 +218,7 @@ impl<T> Owned<T> {
         self.engine.peek(pid, on, max_bytes, max_fds)
     }
 
-    /// Begins a pass of the collector over the files that are live, and returns its number.
-    /// Refused with EBUSY while a pass runs.
+    /// Begins a pass of the collector: `Engine::begin`.
     pub fn begin(&mut self) -> Result<u64, Errno>
         ensures done { IfOk result (λ number.
             Begins self.old.machine.pass self.old.machine (Reply.Started number) self.new.machine) }
@@ -249,9 +229,7 @@ impl<T> Owned<T> {
         self.engine.begin()
     }
 
-    /// Continues the running pass, by at most this many units: each visits, scans or sweeps one
-    /// file. It needs no memory. Refused with EIDLE where none runs, and else with EINVAL where the
-    /// budget is not 1 to 65,536.
+    /// Continues the running pass: `Engine::slice`.
     pub fn slice(&mut self, budget: u32) -> Result<Progress, Errno>
         ensures done { IfOk result (λ progress. GoesOn self.old.machine.pass self.old.machine budget
             (progress_reply progress) self.new.machine) }
@@ -262,8 +240,7 @@ impl<T> Owned<T> {
         self.engine.slice(budget)
     }
 
-    /// Does a whole pass, which frees all garbage. It needs no memory. Refused with EBUSY while a
-    /// pass runs.
+    /// Does a whole pass: `Engine::pass`.
     pub fn pass(&mut self) -> Result<Finished, Errno>
         ensures done { IfOk result (λ finished. PassesWhole self.old.machine.pass self.old.machine
             (finished_reply finished) self.new.machine) }
