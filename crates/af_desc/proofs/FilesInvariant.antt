@@ -30,7 +30,7 @@ use Rattle.af_mark.specs.declared.color.Color.TheVariants.{Black, White, Grey}
 use Rattle.af_mark.proofs.Colors.{color_after, color_get, color_white, color_without, color_known, color_now}
 use Rattle.af_mark.proofs.Whites.{adds-grey, adds-white, none-bound, white-beyond, white-mark, whites-gone, whites-most, whites-put}
 use Rattle.af_mark.proofs.GreyList.{listed-born, listed-gone, listed-same, grey-known, listed-bare, listed-black, listed-grey, white-known}
-use Rattle.af_desc.specs.FilesView.{AreEmbryos, with_embryo, without_embryo, AreWhite, FilesInvariant, AreNamed, FilesView, entered, name_of, without}
+use Rattle.af_desc.specs.FilesView.{AreEmbryos, more_embryos, fewer_embryos, AreWhite, FilesInvariant, AreNamed, FilesView, entered, name_of, without}
 use Rattle.af_desc.specs.FileTableView.{is_white_in, FileTableView, with_row, without_row, is_due}
 use Rattle.af_desc.proofs.FirstNumber.{begun-made, begun-removed}
 use Rattle.af_desc.proofs.FileNames.{named-changed, named-new}
@@ -66,7 +66,7 @@ module _ (m : Map CountView) (f : ℕ) where
         by k x false is = is
 
   -- These places and one more; at most as many of these are in backlogs as the file had.
-  embryos-more : (c : CountView) → c.waiting ≤ (count_in_map m f).waiting → (p : Place) (n : ℕ) → AreEmbryos m n → AreEmbryos (map.insert m f (more p c)) (with_embryo p n)
+  embryos-more : (c : CountView) → c.waiting ≤ (count_in_map m f).waiting → (p : Place) (n : ℕ) → AreEmbryos m n → AreEmbryos (map.insert m f (more p c)) (more_embryos p n)
   embryos-more c few Table n h = λ low. let most = h low in omega (arith, most, few, changed (more Table c))
   embryos-more c few (Queue u) n h = λ low. let most = h low in omega (arith, most, few, changed (more (Queue u) c))
   embryos-more c few Backlog n h = by (nat_lt n (2 ^ 64 - 1)) refl where
@@ -75,11 +75,11 @@ module _ (m : Map CountView) (f : ℕ) where
     by false e low = let high = ltb-false n (2 ^ 64 - 1) e in absurd (omega (arith, high, low))
 
   -- A file more, with its first place.
-  pub embryos-entered : (p : Place) (n k : ℕ) → k ≡ with_embryo p n → AreEmbryos m n → AreEmbryos (map.insert m f (more p uncounted)) k
+  pub embryos-entered : (p : Place) (n k : ℕ) → k ≡ more_embryos p n → AreEmbryos m n → AreEmbryos (map.insert m f (more p uncounted)) k
   embryos-entered p n k is h = subst (AreEmbryos (map.insert m f (more p uncounted))) (sym is) (embryos-more uncounted (omega arith) p n h)
 
   -- A place less, which there is; as many of these are in backlogs as the file had.
-  embryos-fewer : (c : CountView) → c.waiting ≡ (count_in_map m f).waiting → (p : Place) (n : ℕ) → IsCounted p c → AreEmbryos m n → AreEmbryos (map.insert m f (fewer p c)) (without_embryo p n)
+  embryos-fewer : (c : CountView) → c.waiting ≡ (count_in_map m f).waiting → (p : Place) (n : ℕ) → IsCounted p c → AreEmbryos m n → AreEmbryos (map.insert m f (fewer p c)) (fewer_embryos p n)
   embryos-fewer c same Table n some h = λ low. let most = h low in omega (arith, most, same, changed (fewer Table c))
   embryos-fewer c same (Queue u) n some h = λ low. let most = h low in omega (arith, most, same, changed (fewer (Queue u) c))
   embryos-fewer c same Backlog n some h = by (nat_lt n (2 ^ 64 - 1)) refl where
@@ -88,15 +88,15 @@ module _ (m : Map CountView) (f : ℕ) where
     by false e low = let high = ltb-false n (2 ^ 64 - 1) e in absurd (omega (arith, high, low))
 
 -- The number stays right with a place more.
-pub counted-more : (m : Map CountView) (f : ℕ) (p : Place) (n k : ℕ) → k ≡ with_embryo p n → AreEmbryos m n → AreEmbryos (map.insert m f (more p (count_in_map m f))) k
+pub counted-more : (m : Map CountView) (f : ℕ) (p : Place) (n k : ℕ) → k ≡ more_embryos p n → AreEmbryos m n → AreEmbryos (map.insert m f (more p (count_in_map m f))) k
 counted-more m f p n k is h = subst (AreEmbryos (map.insert m f (more p (count_in_map m f)))) (sym is) (embryos-more m f (count_in_map m f) (omega arith) p n h)
 
 -- And with a place less.
-pub counted-fewer : (m : Map CountView) (f : ℕ) (p : Place) (n k : ℕ) → k ≡ without_embryo p n → IsCounted p (count_in_map m f) → AreEmbryos m n → AreEmbryos (map.insert m f (fewer p (count_in_map m f))) k
+pub counted-fewer : (m : Map CountView) (f : ℕ) (p : Place) (n k : ℕ) → k ≡ fewer_embryos p n → IsCounted p (count_in_map m f) → AreEmbryos m n → AreEmbryos (map.insert m f (fewer p (count_in_map m f))) k
 counted-fewer m f p n k is c h = subst (AreEmbryos (map.insert m f (fewer p (count_in_map m f)))) (sym is) (embryos-fewer m f (count_in_map m f) refl p n c h)
 
 -- And where a place becomes one in a table.
-pub counted-moved : (m : Map CountView) (f : ℕ) (p : Place) (n k : ℕ) → k ≡ without_embryo p n → IsCounted p (count_in_map m f) → AreEmbryos m n → AreEmbryos (map.insert m f (fewer p (more Table (count_in_map m f)))) k
+pub counted-moved : (m : Map CountView) (f : ℕ) (p : Place) (n k : ℕ) → k ≡ fewer_embryos p n → IsCounted p (count_in_map m f) → AreEmbryos m n → AreEmbryos (map.insert m f (fewer p (more Table (count_in_map m f)))) k
 counted-moved m f p n k is c h = let all = more Table (count_in_map m f) in subst (AreEmbryos (map.insert m f (fewer p all))) (sym is) (embryos-fewer m f all refl p n (counted-tabled p (count_in_map m f) c) h)
 
 -- Where there are none, no file has a place in a backlog.
@@ -238,7 +238,7 @@ module _ {embryos bound white : ℕ} (old new : FileTableView) (ws : List ℕ) (
 
   -- A file more, without a name, which a place holds: both lists have room, and lack it.
   pub filed-entered : (x : File) (p : Place) → new ≡ with_row next x p new.room old → map.contains_key old.files next ≡ false → map.contains_key old.counts next ≡ false → map.contains_key old.marks next ≡ false → name_of x ≡ None
-      → map.len old.counts + 1 ≤ room → map.len old.marks + 1 ≤ most → (k : ℕ) → k ≡ with_embryo p embryos → FilesInvariant new ws room names (next + 1) epoch grey most k bound white
+      → map.len old.counts + 1 ≤ room → map.len old.marks + 1 ≤ most → (k : ℕ) → k ≡ more_embryos p embryos → FilesInvariant new ws room names (next + 1) epoch grey most k bound white
   filed-entered x p is stranger uncounted_before unmarked_before nameless fits few k embryo = let low = h.last in record {
     last = omega (arith, ap (λ r. r.last) is);
     begins = ap (λ r. map.contains_key r.files 0) is ∙ begun-made old.files next x (omega (arith, low)) h.begins;

@@ -148,17 +148,17 @@ pub record AreNamed (names : NamesView) (files : Map File) : Type 0 where
 abbrev pub AreEmbryos : Map CountView → ℕ → Type 0
 AreEmbryos counts n = n < 2 ^ 64 - 1 → total_of (λ c. c.waiting) counts ≤ n
 
--- The number of embryos with a place of this kind more.
-abbrev pub with_embryo : Place → ℕ → ℕ
-with_embryo Table n = n
-with_embryo (Queue u) n = n
-with_embryo Backlog n = if nat_lt n (2 ^ 64 - 1) then n + 1 else n
+-- How many embryos there are with a place of this kind more.
+abbrev pub more_embryos : Place → ℕ → ℕ
+more_embryos Table n = n
+more_embryos (Queue u) n = n
+more_embryos Backlog n = if nat_lt n (2 ^ 64 - 1) then n + 1 else n
 
--- The same with one less.
-abbrev pub without_embryo : Place → ℕ → ℕ
-without_embryo Table n = n
-without_embryo (Queue u) n = n
-without_embryo Backlog n = if nat_lt n (2 ^ 64 - 1) then n - 1 else n
+-- How many there are with one less.
+abbrev pub fewer_embryos : Place → ℕ → ℕ
+fewer_embryos Table n = n
+fewer_embryos (Queue u) n = n
+fewer_embryos Backlog n = if nat_lt n (2 ^ 64 - 1) then n - 1 else n
 
 -- At most this many files were there when the pass began and are not marked: those below the bound,
 -- which is no later than the next number.

@@ -5,8 +5,8 @@ ghost use Rattle.af_base.specs.Places.{held_in, queue_in};
 ghost use Rattle.af_ledger.specs.Counted.{places_in, IsCountable, IsCounted};
 ghost use Rattle.af_ledger.specs.Tally.{count_in_map, is_unreferenced};
 ghost use Rattle.af_ledger.specs.declared.place.Place.TheVariants.{Table};
-ghost use Rattle.af_desc.specs.FilesView.{freed, with_embryo, with_file_ref, with_moved_ref};
-ghost use Rattle.af_desc.specs.FilesView.{without_embryo, without_file_ref};
+ghost use Rattle.af_desc.specs.FilesView.{fewer_embryos, freed, more_embryos, with_file_ref};
+ghost use Rattle.af_desc.specs.FilesView.{with_moved_ref, without_file_ref};
 ghost use Rattle.af_mark.specs.MarksView.{is_unmarked};
 
 use crate::files::Files;
@@ -101,7 +101,7 @@ impl Files {
         ensures { self.new ≡ with_file_ref place.now file.now self.old }
     {
         let first = self.rows.add_ref(place, file);
-        self.embryos = with_embryo(self.embryos, place);
+        self.embryos = more_embryos(self.embryos, place);
         if first {
             // Of several unreferenced files, mostly the first gains a reference.
             swap_remove_file(&mut self.unreferenced, file.ino(), 0);
@@ -116,7 +116,7 @@ impl Files {
         ensures { self.new ≡ with_file_ref place.now file.now self.old }
     {
         self.rows.add_ref(place, file);
-        self.embryos = with_embryo(self.embryos, place);
+        self.embryos = more_embryos(self.embryos, place);
     }
 
     /// Drops one place of a file, which has it. Without another, the file becomes unreferenced.
@@ -127,7 +127,7 @@ impl Files {
         ensures { self.new ≡ without_file_ref place.now file.now self.old }
     {
         let last = self.rows.sub_ref(place, file);
-        self.embryos = without_embryo(self.embryos, place);
+        self.embryos = fewer_embryos(self.embryos, place);
         if last {
             self.unreferenced.push_reserved(file.duplicate());
         }
@@ -141,7 +141,7 @@ impl Files {
         ensures { self.new ≡ with_moved_ref from.now file.now self.old }
     {
         self.rows.move_to_table(from, file);
-        self.embryos = without_embryo(self.embryos, from);
+        self.embryos = fewer_embryos(self.embryos, from);
     }
 
     /// Drops the reference of a descriptor to a file, which has one. A file without another
@@ -176,8 +176,8 @@ impl Files {
 /// Returns `embryos` after one more place like `place`: one more for a backlog, unless it is at its
 /// largest.
 #[inline(always)]
-pub fn with_embryo(embryos: u64, place: &Place) -> u64
-    ensures { result ≡ with_embryo place.now embryos }
+pub fn more_embryos(embryos: u64, place: &Place) -> u64
+    ensures { result ≡ more_embryos place.now embryos }
 {
     match place {
         Place::Backlog if embryos < u64::MAX => embryos + 1,
@@ -188,8 +188,8 @@ pub fn with_embryo(embryos: u64, place: &Place) -> u64
 /// Returns `embryos` after one place like `place` less: one less for a backlog, unless it is at its
 /// largest, where the true number may be larger.
 #[inline(always)]
-fn without_embryo(embryos: u64, place: &Place) -> u64
-    ensures { result ≡ without_embryo place.now embryos }
+fn fewer_embryos(embryos: u64, place: &Place) -> u64
+    ensures { result ≡ fewer_embryos place.now embryos }
 {
     match place {
         Place::Backlog if embryos < u64::MAX => embryos.saturating_sub(1),

@@ -22,7 +22,7 @@ ghost use Rattle.af_desc.specs.Holding.{IsPopped, without_popped};
 ghost use Rattle.af_queue.specs.TakenView.{nothing_received};
 
 use crate::contents::Popped;
-use crate::counts::with_embryo;
+use crate::counts::more_embryos;
 use crate::file_table::FileTable;
 use crate::socket::{FileKind, Socket};
 use crate::told_lists::widen;
@@ -208,7 +208,7 @@ impl Files {
     {
         reserve(&mut self.rows, &mut self.unreferenced, &mut self.grey, 1)?;
         let file = self.rows.push(Ino(self.next), kind, place);
-        self.embryos = with_embryo(self.embryos, place);
+        self.embryos = more_embryos(self.embryos, place);
         self.next += 1;
         Ok(file)
     }
@@ -254,10 +254,10 @@ impl Files {
         reserve(&mut self.rows, &mut self.unreferenced, &mut self.grey, 2)?;
         let idle = FileKind::new_idle(kind);
         let first = self.rows.push(Ino(self.next), idle, place);
-        self.embryos = with_embryo(self.embryos, place);
+        self.embryos = more_embryos(self.embryos, place);
         let connected = FileKind::new_connected(kind, &first);
         let second = self.rows.push(Ino(self.next + 1), connected, place);
-        self.embryos = with_embryo(self.embryos, place);
+        self.embryos = more_embryos(self.embryos, place);
         self.rows.connect(&first, &second);
         self.next += 2;
         Ok((first, second))

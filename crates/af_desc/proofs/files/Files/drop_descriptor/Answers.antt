@@ -43,14 +43,24 @@ listed : (c : After-sub_descriptor) → nat_eq (places_in (count_in_map c.self.i
 listed c last =
     let a = c.self.inside in
     let one = c.sub_descriptor.ensures in
-    filed-counted a.rows _ _ _ _ _ _ _ _ c.self.invariant _ _ _ one.counts (lowered-pushed a.rows.counts _ a.unreferenced.items c.args.file.now c.self.invariant.unreferenced_listed Table refl (counted c) last).0 one.len (omega arith) _ (counted-fewer a.rows.counts c.args.file.now Table a.embryos a.embryos refl (counted c) c.self.invariant.backlogged)
+    let kept = c.self.invariant in
+    let file = c.args.file.now in
+    let on = (lowered-pushed a.rows.counts _ a.unreferenced.items file kept.unreferenced_listed Table refl (counted c) last).0 in
+    let fewer = counted-fewer a.rows.counts file Table a.embryos a.embryos refl (counted c) kept.backlogged in
+    filed-counted a.rows _ _ _ _ _ _ _ _ kept _ _ _ one.counts on one.len (omega arith) _ fewer
 
 pub invariant_of-self : goal.invariant_of-self
 invariant_of-self c =
     let a = c.self.inside in
     let had = counted (goal.at.invariant_of-self c).After-sub_descriptor in
     let one = c.sub_descriptor.ensures in
-    filed-counted a.rows _ _ _ _ _ _ _ _ c.self.invariant _ a.unreferenced.items (vec_capacity a.unreferenced) one.counts (lowered-kept a.rows.counts _ a.unreferenced.items c.args.file.now c.self.invariant.unreferenced_listed Table refl had (sym one.last ∙ ap is_some c.in_default.is)) one.len (omega arith) _ (counted-fewer a.rows.counts c.args.file.now Table a.embryos a.embryos refl had c.self.invariant.backlogged)
+    let kept = c.self.invariant in
+    let file = c.args.file.now in
+    let list = a.unreferenced in
+    let some = sym one.last ∙ ap is_some c.in_default.is in
+    let stays = lowered-kept a.rows.counts _ list.items file kept.unreferenced_listed Table refl had some in
+    let fewer = counted-fewer a.rows.counts file Table a.embryos a.embryos refl had kept.backlogged in
+    filed-counted a.rows _ _ _ _ _ _ _ _ kept _ list.items (vec_capacity list) one.counts stays one.len (omega arith) _ fewer
 
 pub push_reserved-requires : goal.push_reserved-requires
 push_reserved-requires c =
@@ -64,9 +74,16 @@ invariant_of-self-2 c =
     let a = c.self.inside in
     let had = counted (goal.at.invariant_of-self-2 c).After-sub_descriptor in
     let one = c.sub_descriptor.ensures in
-    let pushed = (lowered-pushed a.rows.counts _ a.unreferenced.items c.args.file.now c.self.invariant.unreferenced_listed Table refl had (sym one.last ∙ ap is_some c.in-Some.is)).0 in
-    let items : c.push_reserved.new.self.items ≡ a.unreferenced.items ++ c.args.file.now ∷ [] = search rules in
-    filed-counted a.rows _ _ _ _ _ _ _ _ c.self.invariant _ c.push_reserved.new.self.items (vec_capacity c.push_reserved.new.self) one.counts (subst (AreUnreferenced _) (sym items) pushed) one.len (omega (arith, c.push_reserved.ensures.capacity)) _ (counted-fewer a.rows.counts c.args.file.now Table a.embryos a.embryos refl had c.self.invariant.backlogged)
+    let kept = c.self.invariant in
+    let file = c.args.file.now in
+    let list = c.push_reserved.new.self in
+    let last = sym one.last ∙ ap is_some c.in-Some.is in
+    let pushed = (lowered-pushed a.rows.counts _ a.unreferenced.items file kept.unreferenced_listed Table refl had last).0 in
+    let items : list.items ≡ a.unreferenced.items ++ file ∷ [] = search rules in
+    let on = subst (AreUnreferenced _) (sym items) pushed in
+    let fits = c.push_reserved.ensures.capacity in
+    let fewer = counted-fewer a.rows.counts file Table a.embryos a.embryos refl had kept.backlogged in
+    filed-counted a.rows _ _ _ _ _ _ _ _ kept _ list.items (vec_capacity list) one.counts on one.len (omega (arith, fits)) _ fewer
 
 pub invariant_of-self-then-is_empty : goal.invariant_of-self-then-is_empty
 invariant_of-self-then-is_empty c =

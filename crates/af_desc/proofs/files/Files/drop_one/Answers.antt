@@ -20,13 +20,27 @@ invariant_of-self c =
     let a = c.self.inside in
     let counted = subst (λ (v : FilesView). IsCounted c.args.place.now (count_in_map v.counts c.args.file.now)) (sym c.self.view_is) c.requires in
     let one = c.sub_ref-last.ensures in
-    let pushed = (lowered-pushed a.rows.counts _ a.unreferenced.items c.args.file.now c.self.invariant.unreferenced_listed c.args.place.now refl counted (sym one.last ∙ c.if-last.true)).0 in
-    let items : c.push_reserved.new.self.items ≡ a.unreferenced.items ++ c.args.file.now ∷ [] = search rules in
-    filed-counted a.rows _ _ _ _ _ _ _ _ c.self.invariant _ c.push_reserved.new.self.items (vec_capacity c.push_reserved.new.self) one.counts (subst (AreUnreferenced _) (sym items) pushed) one.len (omega (arith, c.push_reserved.ensures.capacity)) _ (counted-fewer a.rows.counts c.args.file.now c.args.place.now a.embryos _ c.without_embryo-self-inside.ensures counted c.self.invariant.backlogged)
+    let kept = c.self.invariant in
+    let file = c.args.file.now in
+    let place = c.args.place.now in
+    let list = c.push_reserved.new.self in
+    let pushed = (lowered-pushed a.rows.counts _ a.unreferenced.items file kept.unreferenced_listed place refl counted (sym one.last ∙ c.if-last.true)).0 in
+    let items : list.items ≡ a.unreferenced.items ++ file ∷ [] = search rules in
+    let on = subst (AreUnreferenced _) (sym items) pushed in
+    let fits = c.push_reserved.ensures.capacity in
+    let fewer = counted-fewer a.rows.counts file place a.embryos _ c.fewer_embryos-self-inside.ensures counted kept.backlogged in
+    filed-counted a.rows _ _ _ _ _ _ _ _ kept _ list.items (vec_capacity list) one.counts on one.len (omega (arith, fits)) _ fewer
 
 pub invariant_of-self-else-last : goal.invariant_of-self-else-last
 invariant_of-self-else-last c =
     let a = c.self.inside in
     let counted = subst (λ (v : FilesView). IsCounted c.args.place.now (count_in_map v.counts c.args.file.now)) (sym c.self.view_is) c.requires in
     let one = c.sub_ref-last.ensures in
-    filed-counted a.rows _ _ _ _ _ _ _ _ c.self.invariant _ a.unreferenced.items (vec_capacity a.unreferenced) one.counts (lowered-kept a.rows.counts _ a.unreferenced.items c.args.file.now c.self.invariant.unreferenced_listed c.args.place.now refl counted (sym one.last ∙ c.if-last.false)) one.len (omega arith) _ (counted-fewer a.rows.counts c.args.file.now c.args.place.now a.embryos _ c.without_embryo-self-inside.ensures counted c.self.invariant.backlogged)
+    let kept = c.self.invariant in
+    let file = c.args.file.now in
+    let place = c.args.place.now in
+    let list = a.unreferenced in
+    let some = sym one.last ∙ c.if-last.false in
+    let stays = lowered-kept a.rows.counts _ list.items file kept.unreferenced_listed place refl counted some in
+    let fewer = counted-fewer a.rows.counts file place a.embryos _ c.fewer_embryos-self-inside.ensures counted kept.backlogged in
+    filed-counted a.rows _ _ _ _ _ _ _ _ kept _ list.items (vec_capacity list) one.counts stays one.len (omega arith) _ fewer

@@ -13,4 +13,11 @@ invariant_of-self c =
     let a = c.self.inside in
     let one = c.add_ref.ensures in
     let held = subst (λ (v : FilesView). 0 < places_in (count_in_map v.counts c.args.file.now)) (sym c.self.view_is) c.requires.held in
-    filed-counted a.rows _ _ _ _ _ _ _ _ c.self.invariant _ a.unreferenced.items (vec_capacity a.unreferenced) one.counts (raised-kept a.rows.counts _ a.unreferenced.items c.args.file.now c.self.invariant.unreferenced_listed c.args.place.now refl (told_apart _ 0 (λ e. omega (arith, e, held)))) one.len (omega arith) _ (counted-more a.rows.counts c.args.file.now c.args.place.now a.embryos _ c.with_embryo-self-inside.ensures c.self.invariant.backlogged)
+    let kept = c.self.invariant in
+    let file = c.args.file.now in
+    let place = c.args.place.now in
+    let list = a.unreferenced in
+    let some = told_apart _ 0 (λ e. omega (arith, e, held)) in
+    let stays = raised-kept a.rows.counts _ list.items file kept.unreferenced_listed place refl some in
+    let more = counted-more a.rows.counts file place a.embryos _ c.more_embryos-self-inside.ensures kept.backlogged in
+    filed-counted a.rows _ _ _ _ _ _ _ _ kept _ list.items (vec_capacity list) one.counts stays one.len (omega arith) _ more

@@ -28,7 +28,7 @@ invariant_of-self-2 c =
     let all = c.in_ok-reserve.ensures.counts in
     let marks = c.in_ok-reserve.ensures.marks in
     filed-entered c.reserve.new.rows c.push-file.new.self _ _ _ _ _ _ _ reserved (file_of c.args.kind) c.args.place.now p.pushed p.new p.uncounted p.unmarked c.requires.nameless
-    (omega (arith, all, more.fits, ap (λ r. map.len r.counts) more.rows)) (omega (arith, marks, more.grey_fits, ap (λ r. map.len r.marks) more.rows)) _ c.with_embryo-self-inside.ensures
+    (omega (arith, all, more.fits, ap (λ r. map.len r.counts) more.rows)) (omega (arith, marks, more.grey_fits, ap (λ r. map.len r.marks) more.rows)) _ c.more_embryos-self-inside.ensures
 
 pub returns-clause-ok : goal.returns-clause-ok
 returns-clause-ok c =

@@ -54,10 +54,10 @@ invariant_of-self-2 c =
     let greys = c.in_ok-reserve.ensures.marks in
     let marks = ap (λ r. map.len r.marks) roomy.rows in
     let one = filed-entered c.reserve.new.rows first.new.self _ _ _ _ _ _ _ reserved (file_of c.new_idle-idle.result) p first.ensures.pushed first.ensures.new first.ensures.uncounted first.ensures.unmarked (ap (λ o. name_of (file_of o)) c.new_idle-idle.ensures)
-    (omega (arith, fits, roomy.fits, counts)) (omega (arith, greys, roomy.grey_fits, marks)) _ c.with_embryo-self-inside.ensures in
+    (omega (arith, fits, roomy.fits, counts)) (omega (arith, greys, roomy.grey_fits, marks)) _ c.more_embryos-self-inside.ensures in
     let two = filed-entered first.new.self second.new.self _ _ _ _ _ _ _ one (file_of c.new_connected-connected.result) p second.ensures.pushed second.ensures.new second.ensures.uncounted second.ensures.unmarked (ap (λ o. name_of (file_of o)) c.new_connected-connected.ensures)
     (omega (arith, fits, roomy.fits, counts, ap (λ r. map.len r.counts) first.ensures.pushed, len-insert_most c.reserve.new.rows.counts a.next (more p uncounted)))
-    (omega (arith, greys, roomy.grey_fits, marks, ap (λ r. map.len r.marks) first.ensures.pushed, len-insert_most c.reserve.new.rows.marks a.next unmarked)) _ c.with_embryo-self-inside-2.ensures in
+    (omega (arith, greys, roomy.grey_fits, marks, ap (λ r. map.len r.marks) first.ensures.pushed, len-insert_most c.reserve.new.rows.marks a.next unmarked)) _ c.more_embryos-self-inside-2.ensures in
     let all = socket_changed second.new.self c.connect.new.self _ _ _ _ _ _ _ two c.push-first.result (connected c.push-second.result) (λ s. refl) c.connect.ensures in
     let low = all.last in
     record { last = omega (arith, low); begins = all.begins; named = all.named; unreferenced_listed = all.unreferenced_listed; fits = all.fits; listed = all.listed; backlogged = all.backlogged; whites = (let bound = all.whites.0 in omega (arith, bound), all.whites.1); space = all.space }

@@ -14,5 +14,8 @@ invariant_of-self c =
     let p = c.args.from.now in
     let one = c.move_to_table.ensures in
     let counted = subst (λ (v : FilesView). IsCounted p (count_in_map v.counts k)) (sym c.self.view_is) c.requires.counted in
-    let list = moved-kept a.rows.counts _ a.unreferenced.items k c.self.invariant.unreferenced_listed p refl counted in
-    filed-counted a.rows _ _ _ _ _ _ _ _ c.self.invariant _ a.unreferenced.items (vec_capacity a.unreferenced) one.counts list one.len (omega arith) _ (counted-moved a.rows.counts k p a.embryos _ c.without_embryo-self-inside.ensures counted c.self.invariant.backlogged)
+    let kept = c.self.invariant in
+    let list = a.unreferenced in
+    let stays = moved-kept a.rows.counts _ list.items k kept.unreferenced_listed p refl counted in
+    let moved = counted-moved a.rows.counts k p a.embryos _ c.fewer_embryos-self-inside.ensures counted kept.backlogged in
+    filed-counted a.rows _ _ _ _ _ _ _ _ kept _ list.items (vec_capacity list) one.counts stays one.len (omega arith) _ moved
