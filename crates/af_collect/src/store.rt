@@ -9,7 +9,7 @@ ghost use Rattle.af_base.specs.Places.{table_at};
 ghost use Rattle.af_base.specs.Refusals.{is_full, is_at_process_limit, process_at};
 ghost use Rattle.af_base.specs.Steps.{spawned, with_pair};
 ghost use Rattle.af_base.specs.Table.{lowest_free};
-ghost use Rattle.af_base.specs.Told.{AreChanged, TellsReleased};
+ghost use Rattle.af_base.specs.Told.{AreChanged, AreSocketsOnce, TellsReleased};
 ghost use Rattle.af_collect.specs.Limits.{IsBelowLimit};
 ghost use Rattle.af_collect.specs.StoreView.{room_at};
 
@@ -188,7 +188,8 @@ impl Store {
     /// Returns the sockets whose readiness may have changed since the lists were last emptied, each
     /// once, if that list is kept.
     pub fn changed_sockets(&self) -> &[FileRef]
-        ensures { self.now.since.changed ≡ true
+        ensures once { AreSocketsOnce self.now.world.files result.now }
+        ensures changed { self.now.since.changed ≡ true
             → AreChanged self.now.world.files self.now.since result.now }
     {
         self.collector.holdings.files().changed_sockets()
