@@ -15,6 +15,7 @@ pub mod PassUnits
 pub mod PassFrees
 pub mod PassStages
 pub mod PassChanges
+pub mod Looks
 pub mod SparedFiles
 pub mod EmptiedSockets
 pub mod TablePlaces

@@ -7,6 +7,7 @@ pub mod Receiving
 -- The invariant of a running pass.
 pub mod Since
 pub mod Keeping
+pub mod Looks
 pub mod Purged
 -- The view of a store, the invariant of its parts, and the effect of a whole pass.
 pub mod Collecting

@@ -5,7 +5,8 @@ ghost use Rattle.af_base.specs.Pass.{Idle, IsInTime, Running, Slices};
 ghost use Rattle.af_base.specs.Unheld.{Settles};
 ghost use Rattle.af_base.specs.Whole.{IsSound};
 ghost use Rattle.af_mark.specs.MarksView.{is_marked, is_unmarked};
-ghost use Rattle.af_collect.specs.Keeping.{PassInvariant, runs};
+ghost use Rattle.af_collect.specs.Keeping.{PassInvariant, is_marking, runs};
+ghost use Rattle.af_collect.specs.Looks.{MarksByLooks};
 ghost use Rattle.af_collect.specs.Collecting.{Collects};
 ghost use Rattle.af_collect.specs.StoreView.{slice_reply};
 
@@ -65,6 +66,8 @@ impl Store {
             (slice_reply pass result) self.new.world self.new.pass }
         ensures sound { IsSound self.new.world }
         ensures since { self.new.since ≡ self.old.since }
+        ensures marks { is_marking self.new.progress.stage ≡ true → MarksByLooks self.old.world budget
+            self.old.marks self.new.marks }
         ensures looked { self.new.progress.looked ≤ self.old.progress.looked + budget }
         ensures rises { self.old.progress.looked ≤ self.new.progress.looked }
         ensures none_due { IfSome result (λ _. (f : ℕ) → is_unmarked self.new.marks f ≡ false) }

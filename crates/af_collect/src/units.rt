@@ -6,6 +6,7 @@ ghost use Rattle.af_base.specs.Whole.{IsSound};
 ghost use Rattle.af_mark.specs.MarksView.{is_grey, is_marked};
 ghost use Rattle.af_collect.specs.declared.progress.Stage.TheVariants as stage;
 ghost use Rattle.af_collect.specs.Keeping.{is_running};
+ghost use Rattle.af_collect.specs.Looks.{MarksByLooks, OnlyMarks};
 ghost use Rattle.af_collect.specs.Purged.{ArePurged};
 ghost use Rattle.af_collect.specs.Collecting.{NoneLeft, NoneLive};
 ghost use Rattle.af_collect.specs.StoreView.{KeepsPass};
@@ -56,6 +57,7 @@ impl Collector {
         ensures begun { self.new.begun ≡ self.old.begun }
         ensures purged { ArePurged self.old.begun.value.world self.old.holdings.world
             self.new.holdings.world budget }
+        ensures marks { OnlyMarks budget self.old self.new }
         ensures looked { self.new.progress.looked ≤ self.old.progress.looked + budget }
         ensures rises { self.old.progress.looked ≤ self.new.progress.looked }
         ensures working { result ≡ false
@@ -96,6 +98,7 @@ impl Collector {
         ensures few { result ≤ left }
         ensures purged { ArePurged self.old.begun.value.world self.old.holdings.world
             self.new.holdings.world result }
+        ensures marks { OnlyMarks result self.old self.new }
         ensures looked { self.new.progress.looked ≡ self.old.progress.looked + result }
         ensures gone { result ≡ 0 → NoneLeft self.old.begun.value.world self.new.holdings.world }
         ensures counted { result ≡ 0
@@ -125,6 +128,8 @@ impl Collector {
         ensures kept { KeepsPass self.new }
         ensures holdings { self.new.holdings
             ≡ record self.old.holdings { marks = self.new.holdings.marks } }
+        ensures marks { MarksByLooks self.old.holdings.world result self.old.holdings.marks
+            self.new.holdings.marks }
         ensures begun { self.new.begun ≡ self.old.begun }
         ensures few { result ≤ left }
         ensures looked { self.new.progress.looked ≡ self.old.progress.looked + result }
@@ -207,6 +212,8 @@ impl Collector {
         ensures kept { KeepsPass self.new }
         ensures holdings { self.new.holdings
             ≡ record self.old.holdings { marks = self.new.holdings.marks } }
+        ensures marks { MarksByLooks self.old.holdings.world 1 self.old.holdings.marks
+            self.new.holdings.marks }
         ensures begun { self.new.begun ≡ self.old.begun }
         ensures units { (0 < result) × (result ≤ left) }
         ensures progress { self.new.progress ≡ record self.old.progress {
@@ -231,6 +238,8 @@ impl Collector {
         ensures kept { KeepsPass self.new }
         ensures holdings { self.new.holdings
             ≡ record self.old.holdings { marks = self.new.holdings.marks } }
+        ensures marks { MarksByLooks self.old.holdings.world 1 self.old.holdings.marks
+            self.new.holdings.marks }
         ensures begun { self.new.begun ≡ self.old.begun }
         ensures progress { result ≡ true → self.new.progress
             ≡ record self.old.progress { looked = self.old.progress.looked + 1 } }

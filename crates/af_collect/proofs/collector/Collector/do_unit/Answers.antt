@@ -1,9 +1,12 @@
 use Rattle.std.proofs.Common.{◌≡◌, ◌<◌, ℕ, true, ap, sym, subst, ◌∙◌}
+use Rattle.std.proofs.lemmas.Bool.{false≢true}
 use Rattle.af_base.specs.Reached.{IsGarbageCount}
+use Rattle.af_collect.specs.Keeping.{is_marking}
 use Rattle.af_collect.specs.Purged.{ArePurged}
 use Rattle.af_mark.specs.MarksView.{MarksView, is_marked, knows}
 use Rattle.af_collect.proofs.PassChanges.{counted_all, none_marked}
 use Rattle.af_collect.proofs.EmptiedSockets.{purged_none}
+use Rattle.af_collect.proofs.Looks.{only-none}
 use Rattle.af_collect.proofs.collector.Collector.do_unit.Goals as goal
 use Rattle.af_collect.proofs.collector.Collector.do_unit.Goals.{then-is_marking+else-units-gt0, else-is_marking}
 
@@ -34,3 +37,15 @@ returns-then-are_marked-clause-gone c = λ _. none_marked c.requires.running (su
 -- And its sockets were counted.
 pub returns-then-are_marked-clause-counted : goal.returns-then-are_marked-clause-counted
 returns-then-are_marked-clause-counted c = λ _. counted_all c.requires.running (none_marked c.requires.running (subst (λ (m : MarksView). (f : ℕ) → knows m f ≡ true → f < m.bound → is_marked m f ≡ true) c.files.ensures.marks (c.are_marked.ensures c.if-are_marked.true)) c.requires.kept) c.requires.kept
+
+-- Where all are marked nothing changes.
+pub returns-then-are_marked-clause-marks : goal.returns-then-are_marked-clause-marks
+returns-then-are_marked-clause-marks c = only-none 0 c.args.self.now
+
+-- A pass that sweeps marks no more.
+pub returns-clause-marks : goal.returns-clause-marks
+returns-clause-marks c = λ t. absurd (false≢true (sym (ap is_marking c.sweep_unit.ensures.stage) ∙ t))
+
+-- It marked, and marks still.
+pub returns-then-units-gt0-clause-marks : goal.returns-then-units-gt0-clause-marks
+returns-then-units-gt0-clause-marks c = λ t. (sym c.is_marking.ensures ∙ c.if-is_marking.true, c.mark_unit-units.ensures.holdings, c.mark_unit-units.ensures.marks)

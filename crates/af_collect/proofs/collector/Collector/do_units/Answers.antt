@@ -3,6 +3,7 @@ use Rattle.af_base.specs.Reached.{IsGarbageCount}
 use Rattle.af_collect.specs.Purged.{ArePurged}
 use Rattle.af_collect.proofs.PassChanges.{counted_all, none_tabled}
 use Rattle.af_collect.proofs.EmptiedSockets.{purged_join, purged_more, purged_none}
+use Rattle.af_collect.proofs.Looks.{only-join, only-none}
 use Rattle.af_collect.proofs.collector.Collector.do_units.Goals as goal
 
 -- At first nothing was done.
@@ -20,6 +21,7 @@ loop-left-init c =
       begun = refl;
       few = omega arith;
       purged = purged_none now.holdings.world (budget - budget) r.sound.settled;
+      marks = only-none (budget - budget) now;
       looked = refl;
     }
 
@@ -49,6 +51,7 @@ loop-left-preserved c =
       begun = u.begun ∙ i.begun;
       few = omega (arith, few, low);
       purged = purged_more first after ((budget - left) + n) (budget - (left - n)) adds (purged_join first before after (budget - left) n i.purged some);
+      marks = only-join (budget - left) n (budget - (left - n)) adds c.args.self.now c.loop-left.self c.do_unit-units.new.self i.marks u.marks;
       looked = omega (arith, so_far, further, few, low);
     }
 
@@ -83,3 +86,20 @@ returns-then-is_calm-clause-gone c = λ _. none_tabled c.requires.running (c.is_
 -- And its sockets were counted.
 pub returns-then-is_calm-clause-counted : goal.returns-then-is_calm-clause-counted
 returns-then-is_calm-clause-counted c = λ _. counted_all c.requires.running (none_tabled c.requires.running (c.is_calm.ensures c.if-is_calm.true) c.requires.kept) c.requires.kept
+
+-- The last unit marked nothing.
+pub returns-then-units-eq0-clause-marks : goal.returns-then-units-eq0-clause-marks
+returns-then-units-eq0-clause-marks c =
+    let few = c.loop-left.invariant.few in
+    let low = c.do_unit-units.ensures.few in
+    only-join (c.args.budget - c.loop-left.left) c.do_unit-units.result c.args.budget (omega (arith, few, low)) c.args.self.now c.loop-left.self c.do_unit-units.new.self c.loop-left.invariant.marks c.do_unit-units.ensures.marks
+
+-- Where nothing is in flight nothing is marked.
+pub returns-then-is_calm-clause-marks : goal.returns-then-is_calm-clause-marks
+returns-then-is_calm-clause-marks c = only-none c.args.budget c.args.self.now
+
+-- The whole budget is spent.
+pub returns-clause-marks : goal.returns-clause-marks
+returns-clause-marks c =
+    let p = c.loop-left.self in
+    only-join (c.args.budget - c.loop-left.left) 0 c.args.budget (omega arith) c.args.self.now p p c.loop-left.invariant.marks (only-none 0 p)

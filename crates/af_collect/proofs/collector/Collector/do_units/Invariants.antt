@@ -3,6 +3,7 @@
 use Rattle.std.proofs.Common.{◌≡◌, ◌≤◌, ◌+◌, ◌-◌, true}
 use Rattle.af_base.specs.Whole.{IsSound}
 use Rattle.af_collect.specs.Keeping.{is_running}
+use Rattle.af_collect.specs.Looks.{OnlyMarks}
 use Rattle.af_collect.specs.Purged.{ArePurged}
 use Rattle.af_collect.specs.StoreView.{KeepsPass}
 use Rattle.af_collect.proofs.collector.Collector.do_units.Given as goal
@@ -17,6 +18,7 @@ invariant-loop-left l = record {
   begun : l.self.begun ≡ l.fn.self.begun;
   few : l.left ≤ l.fn.budget;
   purged : ArePurged l.fn.self.begun.value.world l.fn.self.holdings.world l.self.holdings.world (l.fn.budget - l.left);
+  marks : OnlyMarks (l.fn.budget - l.left) l.fn.self l.self;
   looked : l.self.progress.looked + l.left ≡ l.fn.self.progress.looked + l.fn.budget;
 }
 

@@ -4,6 +4,8 @@ use Rattle.af_collect.specs.HoldingsView.{HoldingsView}
 use Rattle.af_collect.specs.Keeping.{PassInvariant}
 use Rattle.af_collect.proofs.PassChanges.{kept_scan}
 use Rattle.af_collect.proofs.ShadedMarks.{shaded_all_after}
+use Rattle.af_collect.specs.Looks.{MarksByLooks}
+use Rattle.af_collect.proofs.Looks.{looks-none, looks-scan}
 use Rattle.af_collect.proofs.collector.Collector.scan.Goals as goal
 
 -- All files that the file holds are marked, and it is black.
@@ -20,3 +22,14 @@ returns-clause-kept c =
 
 pub returns-in_default-clause-progress : goal.returns-in_default-clause-progress
 returns-in_default-clause-progress c = search rules
+
+-- The scan looked at this file.
+pub returns-clause-marks : goal.returns-clause-marks
+returns-clause-marks c =
+    let now = c.args.self.now.holdings in
+    subst (λ (s : HoldingsView). MarksByLooks now.world 1 now.marks s.marks) (sym c.in-Some.ensures.some.1) (looks-scan now.world c.in-Some.field-0 now.marks)
+
+pub returns-in_default-clause-marks : goal.returns-in_default-clause-marks
+returns-in_default-clause-marks c =
+    let now = c.args.self.now.holdings in
+    subst (λ (s : HoldingsView). MarksByLooks now.world 1 now.marks s.marks) (sym c.in_default.ensures.none.0) (looks-none now.world 1 now.marks)

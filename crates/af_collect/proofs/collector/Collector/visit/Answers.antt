@@ -2,6 +2,8 @@ use Rattle.std.proofs.Common.{◌≡◌, ◌+◌, ap, sym, subst, ◌∙◌}
 use Rattle.af_collect.specs.HoldingsView.{HoldingsView}
 use Rattle.af_collect.specs.Keeping.{PassInvariant, units_of}
 use Rattle.af_collect.proofs.PassChanges.{kept_visit}
+use Rattle.af_collect.specs.Looks.{MarksByLooks}
+use Rattle.af_collect.proofs.Looks.{looks-visit}
 use Rattle.af_collect.proofs.collector.Collector.visit.Goals as goal
 use Rattle.af_collect.proofs.collector.Collector.visit.Goals.{then-scanned, else-scanned}
 
@@ -21,3 +23,9 @@ returns-clause-kept c =
     let past = subst (λ (t : HoldingsView). PassInvariant t.world now.begun.value.world t.marks (record now.progress { visited = x + 1; looked = now.progress.looked + units_of s })) (sym e.marks) k in
     let after = subst (λ n. PassInvariant c.visit-scanned.new.self.world now.begun.value.world c.visit-scanned.new.self.marks (record now.progress { visited = x + 1; looked = now.progress.looked + n })) units past in
     subst (λ n. PassInvariant c.visit-scanned.new.self.world now.begun.value.world c.visit-scanned.new.self.marks (record now.progress { visited = n + 1; looked = now.progress.looked + c.from.result })) (sym c.ino.ensures ∙ sym c.self.view_is) after
+
+-- The visit looked at this file.
+pub returns-clause-marks : goal.returns-clause-marks
+returns-clause-marks c =
+    let now = c.args.self.now.holdings in
+    subst (λ (s : HoldingsView). MarksByLooks now.world 1 now.marks s.marks) (sym c.visit-scanned.ensures.marks) (looks-visit now.world c.visit-scanned.result c.args.file.now _ now.marks)

@@ -4,6 +4,8 @@ use Rattle.af_base.specs.Pass.{Idle, Slices}
 use Rattle.af_collect.proofs.VisiblePass.{slices_done, seen_begun}
 use Rattle.af_collect.specs.HoldingsView.{HoldingsView}
 use Rattle.af_collect.specs.StoreView.{StoreView}
+use Rattle.std.proofs.lemmas.Bool.{false≢true}
+use Rattle.af_collect.specs.Looks.{MarksByLooks}
 use Rattle.af_collect.proofs.store.Store.slice.Goals as goal
 
 -- The pass is over: no garbage of its begin is left.
@@ -23,3 +25,11 @@ returns-clause-does c = λ begun spent pass e.
 
 pub returns-clause-rises : goal.returns-clause-rises
 returns-clause-rises c = search rules
+
+-- A pass that is over marks no more.
+pub returns-clause-marks : goal.returns-clause-marks
+returns-clause-marks c = λ t. absurd (false≢true t)
+
+-- The units marked few.
+pub returns-then-not-do_units-clause-marks : goal.returns-then-not-do_units-clause-marks
+returns-then-not-do_units-clause-marks c = λ t. subst (λ (s : StoreView). MarksByLooks s.world c.args.budget s.marks c.do_units.new.self.holdings.marks) c.self.view_is (c.do_units.ensures.marks t).2
