@@ -1,6 +1,6 @@
 //! The lists of freed files, and of sockets whose readiness may have changed.
 ghost use Rattle.std.specs.Prelude.{◌≡◌, true, OnErr, OnOk};
-ghost use Rattle.af_base.specs.Told.{TellsChanged, TellsReleased};
+ghost use Rattle.af_base.specs.Told.{AreSocketsOnce, TellsChanged, TellsReleased};
 
 use crate::engine::Engine;
 use af_base::ids::{FileRef, Ino};
@@ -54,7 +54,8 @@ impl Engine {
     /// once, if that list is kept. If neither a socket nor its peer is listed, `poll` answers as it
     /// did then. A plain file is never listed: it is always ready. No search.
     pub fn changed_sockets(&self) -> &[FileRef]
-        ensures { TellsChanged self.now.world self.now.since result.now }
+        ensures once { AreSocketsOnce self.now.world.files result.now }
+        ensures changed { TellsChanged self.now.world self.now.since result.now }
     {
         self.store.changed_sockets()
     }
