@@ -35,7 +35,7 @@ enum Benchmark {
 }
 
 impl Benchmark {
-    /// Returns the benchmark that these words name.
+    /// Returns the benchmark that `words` name.
     fn of(words: &[String]) -> Option<Benchmark> {
         let [form, first @ .., events, count] = words else {
             return None;

@@ -157,7 +157,7 @@ fn checkpoint_option<'a>(alloc: Global) -> Arg<'a>
         .default_value("0")
 }
 
-/// Adds these options to the command.
+/// Adds `options` to the command.
 fn with_numbers<'a>(
     alloc: Global,
     mut command: Command<'a>,
@@ -209,7 +209,7 @@ fn whole_command<'a>(alloc: Global) -> Result<Command<'a>, AllocError>
         .subcommand(race_command(alloc)?)
 }
 
-/// Returns the number of an option, where it has one in this range.
+/// Returns the number of an option, where it has one from `least` to `most`.
 fn number(matches: &ArgMatches<'_>, name: &str, least: u32, most: u32) -> Option<u32>
     ensures some { IfSome result (HasNumber (rows_of (found_of matches.now)) name.now least most) }
     ensures none { IfNone result
@@ -233,7 +233,7 @@ fn most_steps(checkpoint: u32) -> u32
     }
 }
 
-/// Returns the race that these options ask for.
+/// Returns the race that the options ask for.
 fn race_of<'a>(matches: &ArgMatches<'a>) -> Option<Task<'a>>
     ensures some { IfSome result (λ task. (workers steps seed budget checkpoint : ℕ)
         × (task ≡ Asked.Race workers steps seed budget checkpoint)
@@ -251,7 +251,7 @@ fn race_of<'a>(matches: &ArgMatches<'a>) -> Option<Task<'a>>
     })
 }
 
-/// Returns the script that these options ask to play.
+/// Returns the script that the options ask to play.
 fn play_of<'a>(matches: &ArgMatches<'a>) -> Task<'a>
     ensures { (file : Option (Bor (List ℕ))) × (result ≡ Asked.Play file)
         × (option_map (λ path. path.now) file

@@ -19,7 +19,7 @@ pub struct Rounds {
 }
 
 impl Runs {
-    /// Returns the runs that these words name.
+    /// Returns the runs that the words `events` and `count` name.
     pub fn of(events: &str, count: &str) -> Option<Runs> {
         Some(Runs {
             events: events.parse().ok()?,
@@ -27,8 +27,8 @@ impl Runs {
         })
     }
 
-    /// Returns the rounds of a run over this many events. A run does a short list over and over,
-    /// and the next part of a long one. Returns `None` where that does not come out even.
+    /// Returns the rounds of a run over `events` events. A run does a short list over and over, and
+    /// the next part of a long one. Returns `None` where that does not come out even.
     pub fn rounds(&self, events: usize) -> Option<Rounds>
         ensures some { IfSome result (λ rounds. 0 < rounds.events) }
         ensures round { IfSome result (λ rounds. rounds.events ≡ min self.now.events events) }
@@ -48,8 +48,8 @@ impl Runs {
     }
 }
 
-/// Returns how long a run took that began at this time, in nanoseconds. It fails if an event of the
-/// run was refused.
+/// Returns how long a run took that began at `start`, in nanoseconds. Fails if an event of the run
+/// was refused.
 pub fn time_since<R: Clock>(rt: &R, start: Instant, is_done: bool) -> io::Result<u128> {
     if !is_done {
         return Err(refusal());

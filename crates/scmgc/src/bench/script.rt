@@ -13,7 +13,7 @@ use std::io::{self, Print, Read};
 use std::str::Lines;
 use std::time::{Clock, Instant};
 
-/// Measures the script that a reader gives, without its first lines, this many.
+/// Measures the script that a reader gives, without its first `setup` lines.
 pub fn measure_input<R: Clock + Print, I: Read + Drop>(
     rt: &R,
     alloc: Global,
@@ -25,7 +25,7 @@ pub fn measure_input<R: Clock + Print, I: Read + Drop>(
     measure_script(rt, alloc, script.as_str(), setup, runs)
 }
 
-/// Measures a script, without its first lines, this many.
+/// Measures a script, without its first `setup` lines.
 fn measure_script<R: Clock + Print>(
     rt: &R,
     alloc: Global,
@@ -81,7 +81,7 @@ fn is_done(engine: &mut Engine, event: &Event) -> bool {
     !matches!(engine.step(event), Reply::Refused(_))
 }
 
-/// Does these events over and over, and prints what each run took.
+/// Does `events` over and over, and prints what each run took.
 fn measure<R: Clock + Print>(
     rt: &R,
     alloc: Global,
@@ -101,9 +101,9 @@ fn measure<R: Clock + Print>(
     print_times(rt, times.as_slice())
 }
 
-/// Does these events this many times over, and returns whether none was refused. Stops at the first
-/// that is.
-// It is kept apart, so that its loop has all registers.
+/// Does `events`, `rounds` times over, and returns whether none was refused. Stops at the first that
+/// is.
+// Kept apart, so that the loop has all registers.
 #[inline(never)]
 fn are_done(engine: &mut Engine, events: &[Event], rounds: usize) -> bool {
     for _ in 0..rounds {

@@ -16,8 +16,7 @@ use scm_run::without_return;
 use std::alloc::{AllocError, Global};
 use std::io::{BufRead, Write};
 
-/// Returns the line of these bytes, without its end: one line feed, and one carriage return before
-/// it.
+/// Returns the line in `bytes`, without its end: one line feed, and one carriage return before it.
 fn line_in(bytes: &[u8]) -> &[u8]
     ensures { result.now ≡ line_in bytes.now }
 {
@@ -49,7 +48,7 @@ fn read_line<R: BufRead>(alloc: Global, reader: &mut R) -> Result<Vec<u8>, PlayF
     }
 }
 
-/// Shows the prompt for the line of this number.
+/// Shows the prompt for line `number`.
 fn write_prompt<W: Write>(
     alloc: Global,
     style: Style,

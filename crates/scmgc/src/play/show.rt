@@ -34,7 +34,7 @@ fn push_spaces(shown: &mut Vec<u8>, count: usize) -> Result<(), AllocError>
     Ok(())
 }
 
-/// Appends the prefix of the line of this number.
+/// Appends the prefix of line `number`.
 fn push_number(alloc: Global, shown: &mut Vec<u8>, number: u64) -> Result<(), AllocError>
     ensures { OnOk result (shown.new.items ≡ shown.old.items ++ number_text number) }
 {
@@ -114,7 +114,7 @@ pub fn entry(
     Ok(shown)
 }
 
-/// Makes the prompt before the line of this number.
+/// Makes the prompt before line `number`.
 pub fn prompt(alloc: Global, style: Style, number: u64) -> Result<String, AllocError>
     ensures { IfOk result (λ text. string_bytes text ≡ prompt_text style number) }
 {

@@ -14,8 +14,8 @@ use af_base::limits::MAX_BUDGET;
 use af_layer::{EventReply, Layer, Origin, Seat};
 use std::sync::Wait;
 
-/// After this many slices of the largest budget each pass is done: it works on only while all its
-/// budgets are within three times the files of its begin.
+/// A pass is done after at most `MOST_SLICES` slices of the largest budget: it works on only while
+/// all its budgets are within three times the files of its begin.
 const MOST_SLICES: u32 = 4;
 
 /// Returns the child of a fork, if the event is one and was done.
@@ -28,14 +28,14 @@ fn child_of_fork(event: &Event, reply: &Reply) -> Option<Pid>
     }
 }
 
-/// Returns the child of an answered fork, if this is one.
+/// Returns the child of an answered fork, if `pair` is one.
 fn child_of(pair: &EventReply) -> Option<Pid>
     ensures { result ≡ child_of pair.now }
 {
     child_of_fork(&pair.event(), &pair.reply())
 }
 
-/// Lets the children exit that were forked by these calls.
+/// Lets the children exit that were forked by the calls in `list`.
 fn end_children_of<R: Wait, O: Origin>(
     rt: &R,
     layer: &Layer<O>,
@@ -53,7 +53,7 @@ fn end_children_of<R: Wait, O: Origin>(
     Ok(())
 }
 
-/// Lets all children exit that were forked from these seats.
+/// Lets all children exit that were forked from `seats`.
 pub fn end_children<R: Wait, O: Origin>(
     rt: &R,
     layer: &Layer<O>,
@@ -69,7 +69,7 @@ pub fn end_children<R: Wait, O: Origin>(
     Ok(())
 }
 
-/// Returns whether the last call from this seat continued a pass that is not done.
+/// Returns whether the last call from `seat` continued a pass that is not done.
 fn is_working(seat: &Seat) -> bool
     ensures { (before : List Pair) (event : Asked) (reply : Answer)
         → seat.now.list ≡ before ++ (event, reply) ∷ []

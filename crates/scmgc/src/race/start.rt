@@ -46,7 +46,7 @@ fn check_start(start: &EventReply, worker: u32) -> Result<(), RaceFault>
     }
 }
 
-/// Starts the process of this worker, which gets the worker's number as its pid.
+/// Starts the process of `worker`, which gets the worker's number as its pid.
 fn start_process<R: Wait, O: Origin>(
     rt: &R,
     layer: &Layer<O>,
@@ -122,7 +122,7 @@ pub fn sources(
     Ok(sources)
 }
 
-/// Makes the next events of all workers, this many of each.
+/// Makes the next events of all workers, `count` of each.
 pub fn next_parts(
     alloc: Global,
     sources: &mut [Source],

@@ -27,7 +27,7 @@ pub fn generator(worker: u32, seed: u32) -> Xoshiro256PlusPlus
     rng
 }
 
-/// Makes the whole script of a worker ([`Source`]): this many events, all of the process with the
+/// Makes the whole script of a worker ([`Source`]): `steps` events, all of the process with the
 /// worker's number. Fails only if memory is refused.
 pub fn make_script(
     alloc: Global,

@@ -62,8 +62,7 @@ fn listener_type(worker: u32) -> SockType
     }
 }
 
-/// Makes the event at this position of those that each script begins with: a listener at 0, and a
-/// pair.
+/// Makes the event at `place` of those that each script begins with: a listener at 0, and a pair.
 fn opening_step(alloc: Global, worker: u32, place: u32) -> Result<Step, AllocError>
     requires { place < OPENING }
     ensures { IfOk result (λ step. slice_get (opening_steps worker) place ≡ Some step) }
@@ -129,7 +128,7 @@ impl Source {
         Ok(Some(Event::Proc(Pid(self.worker), Step::Exit)))
     }
 
-    /// Makes the next events: this many, or all that are left. Fails only if memory is refused.
+    /// Makes the next `count` events, or all that are left. Fails only if memory is refused.
     pub fn part(&mut self, alloc: Global, count: u32) -> Result<Vec<Event>, AllocError>
         ensures made { IfOk result (λ part. part.items ≡ take count self.old) }
         ensures left { IfOk result (λ part. self.new ≡ drop count self.old) }

@@ -14,7 +14,7 @@ pub const MAX_WORKERS: u32 = 32;
 /// The number at which each worker has its listener.
 pub const LISTENER: Fd = Fd(0);
 
-/// Descriptors are drawn below this number. A worker often has fewer, so some are not open.
+/// Descriptors are drawn below `DRAWN_FDS`. A worker often has fewer, so some are not open.
 const DRAWN_FDS: u32 = 12;
 
 /// How many bytes a receive takes at most.
@@ -23,7 +23,7 @@ const RECEIVED_BYTES: u32 = 16;
 /// How many descriptors a receive takes at most.
 const RECEIVED_FDS: u32 = 4;
 
-/// Returns the part of a word that begins at this bit, as a number below `below`.
+/// Returns the part of a word that begins at `bit`, as a number below `below`.
 fn part(word: u64, bit: u32, below: u32) -> u32
     requires bit { bit < 64 }
     requires below { 0 < below }
@@ -100,8 +100,8 @@ fn step_of_word(alloc: Global, workers: u32, word: u64) -> Result<Step, AllocErr
     Ok(step)
 }
 
-/// Makes the event of a word, for the worker with this number among this many. The process of a
-/// worker has its number. Fails only if memory is refused.
+/// Makes the event of a word, for worker number `worker` of `workers`. The process of a worker has
+/// its number. Fails only if memory is refused.
 pub fn event_of_word(
     alloc: Global,
     worker: u32,
