@@ -31,7 +31,7 @@ use Rattle.af_mark.proofs.Colors.{color_after, color_get, color_white, color_wit
 use Rattle.af_mark.proofs.Whites.{adds-grey, adds-white, none-bound, white-beyond, white-mark, whites-gone, whites-most, whites-put}
 use Rattle.af_mark.proofs.GreyList.{listed-born, listed-gone, listed-same, grey-known, listed-bare, listed-black, listed-grey, white-known}
 use Rattle.af_desc.specs.FilesView.{AreEmbryos, more_embryos, fewer_embryos, AreWhite, FilesInvariant, AreNamed, FilesView, entered, name_of, without}
-use Rattle.af_desc.specs.FileTableView.{is_white_in, FileTableView, with_row, without_row, is_due}
+use Rattle.af_desc.specs.FileTableView.{is_white_in, FileTableView, with_row, without_row, is_due_row}
 use Rattle.af_desc.proofs.FirstNumber.{begun-made, begun-removed}
 use Rattle.af_desc.proofs.FileNames.{named-changed, named-new}
 use Rattle.ordered_slab.proofs.Parts.{part_many}
@@ -310,7 +310,7 @@ module _ (epoch bound : ℕ) (r : FileTableView) (f : ℕ) where
   shaded-not spared = ap (λ b. cond (nat_lt f bound && b) (with_color Grey) now) (white-is ∙ spared) ∙ ap (λ b. cond b (with_color Grey) now) (and-false (nat_lt f bound))
 
   -- A file that is not due stays as it is.
-  pub visited-not : is_due epoch r.counts r.marks f ≡ false → visited true tabled f now ≡ now
+  pub visited-not : is_due_row epoch r.counts r.marks f ≡ false → visited true tabled f now ≡ now
   visited-not spared = by (nat_lt 0 tabled) refl where
     by : (b : Bool) → nat_lt 0 tabled ≡ b → cond b (cond (nat_lt f bound && is_white now f) (with_color Black) now) now ≡ now
     by true e =
@@ -319,11 +319,11 @@ module _ (epoch bound : ℕ) (r : FileTableView) (f : ℕ) where
     by false e = refl
 
   -- A file that is due is white.
-  pub due-white : is_due epoch r.counts r.marks f ≡ true → is_white_in epoch r.marks f ≡ true
+  pub due-white : is_due_row epoch r.counts r.marks f ≡ true → is_white_in epoch r.marks f ≡ true
   due-white due = (and_parts (nat_lt 0 tabled) (is_white_in epoch r.marks f) due).1
 
   -- Of a file that was there when the pass began the rows say whether it is due.
-  pub due-within : f < bound → is_due epoch r.counts r.marks f ≡ (nat_lt 0 tabled && is_unmarked now f)
+  pub due-within : f < bound → is_due_row epoch r.counts r.marks f ≡ (nat_lt 0 tabled && is_unmarked now f)
   due-within low = sym (λ i. nat_lt 0 tabled && (lt-ltb f bound low i && white-is i))
 
   module _ (low : f < bound) where
@@ -335,7 +335,7 @@ module _ (epoch bound : ℕ) (r : FileTableView) (f : ℕ) where
         ∙ sym (λ i. cond (lt-ltb f bound low i && (white-is ∙ white) i) (with_color Grey) now))
 
     -- A file that is due is black when it was visited.
-    pub seen-visited : is_due epoch r.counts r.marks f ≡ true → (next : ℕ) → seen epoch bound (record r { marks = map.insert r.marks f (black_mark epoch) }) next ≡ record (seen epoch bound r next) { marks = visited true tabled f now }
+    pub seen-visited : is_due_row epoch r.counts r.marks f ≡ true → (next : ℕ) → seen epoch bound (record r { marks = map.insert r.marks f (black_mark epoch) }) next ≡ record (seen epoch bound r next) { marks = visited true tabled f now }
     seen-visited due next =
         let parts = and_parts (nat_lt 0 tabled) (is_white_in epoch r.marks f) due in
         ap {B = FilesView} (λ (m : MarksView). record (seen epoch bound r next) { marks = m })

@@ -101,5 +101,6 @@ is_white_in epoch marks f =
     option_map_or (λ x. not (is_mark (color_in epoch x))) (map.get marks f) false
 
 -- Whether a pass has still to mark the file, and a table holds it.
-abbrev pub is_due : ℕ → Map CountView → Map MarkView → ℕ → Bool
-is_due epoch counts marks f = nat_lt 0 (count_in_map counts f).tabled && is_white_in epoch marks f
+abbrev pub is_due_row : ℕ → Map CountView → Map MarkView → ℕ → Bool
+is_due_row epoch counts marks f =
+    nat_lt 0 (count_in_map counts f).tabled && is_white_in epoch marks f

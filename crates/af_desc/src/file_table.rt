@@ -15,7 +15,7 @@ ghost use Rattle.af_ledger.specs.Tally.{count_in_map};
 ghost use Rattle.af_ledger.specs.declared.place.Place.TheVariants.{Table};
 ghost use Rattle.af_desc.specs.FilesView.{hung_up, name_in, received_from};
 ghost use Rattle.af_desc.specs.FilesView.{received_of, socket_in};
-ghost use Rattle.af_desc.specs.FileTableView.{file_of, is_due, is_white_in, with_row};
+ghost use Rattle.af_desc.specs.FileTableView.{file_of, is_due_row, is_white_in, with_row};
 ghost use Rattle.af_desc.specs.FileTableView.{with_socket, with_socket_and_room, without_row};
 ghost use Rattle.af_desc.specs.Holding.{IsContents, IsPopped, without_popped};
 ghost use Rattle.af_mark.specs.Grey.{black_mark, grey_mark};
@@ -542,7 +542,7 @@ impl FileTable {
     #[inline(always)]
     #[tactic(auto, using(crate::proofs::FileTableView::chains, ordered_slab::proofs::Parts::parts, ordered_slab::proofs::Values::lent))]
     pub fn visit(&mut self, file: &FileRef, epoch: u32) -> Option<Contents>
-        ensures due { is_some result ≡ is_due epoch self.old.counts self.old.marks file.now }
+        ensures due { is_some result ≡ is_due_row epoch self.old.counts self.old.marks file.now }
         ensures marked { is_some result ≡ true → self.new ≡ record self.old {
           marks = map.insert self.old.marks file.now (black_mark epoch);
         } }
