@@ -2,7 +2,7 @@
 -- changed. Definitions that name no manual page are this project's own.
 use Rattle.std.specs.Prelude.{◌≡◌, ◌⊎◌, ℕ, ℤ, pos, true, List, length, Option, Some, None}
 use Rattle.af_base.specs.Pass.{Machine}
-use Rattle.af_base.specs.Told.{TellsChanged, TellsReleased}
+use Rattle.af_base.specs.Told.{AreSocketsOnce, TellsChanged, TellsReleased}
 use Rattle.af_base.specs.World.{Since, World}
 use Rattle.af_base.specs.declared.errno.Errno.TheVariants.{ENOMEM}
 use Rattle.scm_c.specs.Codes.{error_code, no_engine}
@@ -51,8 +51,8 @@ abbrev pub IsReleasedWritten : World → Since → List ℕ → ℤ → List ℕ
 IsReleasedWritten w since old r new = (told : List ℕ) × TellsReleased w since told
     × (r ≡ pos (length told)) × (new ≡ over told old)
 
--- The answer is how long the list of the sockets whose readiness may have changed is, and as much
--- of it as fits is written.
+-- The answer is how long the list of the sockets whose readiness may have changed is, which has
+-- each once; as much of it as fits is written.
 abbrev pub IsChangedWritten : World → Since → List ℕ → ℤ → List ℕ → Type 0
-IsChangedWritten w since old r new = (told : List ℕ) × TellsChanged w since told
-    × (r ≡ pos (length told)) × (new ≡ over told old)
+IsChangedWritten w since old r new = (told : List ℕ) × AreSocketsOnce w.files told
+    × TellsChanged w since told × (r ≡ pos (length told)) × (new ≡ over told old)
