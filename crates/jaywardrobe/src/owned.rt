@@ -12,7 +12,7 @@ ghost use Rattle.std.specs.FinMap as map;
 ghost use Rattle.af_base.specs.Counts.{count_in};
 ghost use Rattle.af_base.specs.Places.{table_at};
 ghost use Rattle.af_base.specs.Run.{fresh};
-ghost use Rattle.af_base.specs.Told.{TellsChanged};
+ghost use Rattle.af_base.specs.Told.{AreSocketsOnce, TellsChanged};
 ghost use Rattle.af_base.specs.Whole.{IsSound};
 ghost use Rattle.af_base.specs.World.{IsLive, is_live};
 ghost use Rattle.af_steps.specs.Outcome.{Does, Refuses};
@@ -182,7 +182,8 @@ impl<T> Owned<T> {
     /// `None`, each once, if that list is kept. If neither a socket nor its peer is listed, `poll`
     /// answers as it did then. No search.
     pub fn changed_sockets(&self) -> &[FileRef]
-        ensures { TellsChanged self.now.machine.world self.now.machine.since result.now }
+        ensures once { AreSocketsOnce self.now.machine.world.files result.now }
+        ensures changed { TellsChanged self.now.machine.world self.now.machine.since result.now }
     {
         self.engine.changed_sockets()
     }
