@@ -1,12 +1,15 @@
 -- Where a step needs no memory from the allocator. Definitions that name no manual page are of this
 -- project's profile (docs/PROFILE.md).
 use Rattle.std.specs.Prelude.{◌≡◌, ◌≤◌, ◌<◌, ◌-◌, ℕ, None, IsTrue, is_some, length}
+use Rattle.af_base.specs.declared.events.Event.{Event}
+use Rattle.af_base.specs.declared.events.Event.TheVariants as event
+use Rattle.af_base.specs.declared.events.Reply.{Reply}
 use Rattle.af_base.specs.declared.events.SockType.TheVariants.{Seqpacket}
 use Rattle.af_base.specs.declared.events.Step.{Step}
 use Rattle.af_base.specs.declared.events.Step.TheVariants as step
 use Rattle.af_base.specs.Places.{table_at}
 use Rattle.af_base.specs.Refusals.{process_at, refusal, socket_on}
-use Rattle.af_base.specs.Steps.{free_at, got_at}
+use Rattle.af_base.specs.Steps.{answer, free_at, got_at}
 use Rattle.af_base.specs.World.{World}
 
 -- Process p has a descriptor open at n or above it: then its table has room at n.
@@ -25,7 +28,16 @@ HasRoom w p (step.Recv n max_bytes max_fds) =
     × (0 < length got → HasOpenFrom w p ((process_at w p).limit - 1))
 HasRoom w p s = ⊥
 
--- Nothing can refuse the step of process p: no test of its row fits, and there is room.
+-- The step of process p cannot fail: no test of its row fits, and there is room.
 pub record CannotFail (w : World) (p : ℕ) (s : Step) : Type 0 where
   pub fits : refusal w p s ≡ None
   pub room : HasRoom w p s
+
+-- Where the step cannot fail, this is the machine's answer, and not ENOMEM.
+abbrev pub Succeeds : World → ℕ → Step → Reply → Type 0
+Succeeds w p s r = CannotFail w p s → r ≡ answer w p s
+
+-- The same of an event, if it is a step of a process.
+abbrev pub EventSucceeds : World → Event → Reply → Type 0
+EventSucceeds w (event.Proc p s) r = Succeeds w p s r
+EventSucceeds w e r = Unit {0}

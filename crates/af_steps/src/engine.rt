@@ -3,6 +3,7 @@ ghost use Rattle.std.specs.Prelude.{◌≡◌, ◌<◌, IfOk, IfErr, length};
 ghost use Rattle.std.specs.List.{zip};
 ghost use Rattle.af_base.specs.Run.{fresh, Run, Step};
 ghost use Rattle.af_steps.specs.Outcome.{Answers};
+ghost use Rattle.af_steps.specs.Rooms.{EventSucceeds, Succeeds};
 
 use af_base::errno::Errno;
 use af_base::events;
@@ -79,10 +80,11 @@ impl Engine {
 
     /// Does one event. It is refused by the first test of its row that fits (`Refusals` in
     /// `af_base/specs`), and with ENOMEM where none fits and memory is refused; after any refusal
-    /// the engine is as it was.
+    /// the engine is as it was. With room there is no ENOMEM (`Rooms` in `specs`).
     #[inline(always)]
     pub fn step(&mut self, event: &Event) -> Reply
-        ensures { Step self.old event.now result self.new }
+        ensures does { Step self.old event.now result self.new }
+        ensures succeeds { EventSucceeds self.old.world event.now result }
     {
         match event {
             Event::Spawn {
@@ -100,7 +102,8 @@ impl Engine {
     /// Does one event as `step`, and consumes it: the bytes of a send are moved into the message,
     /// and not copied.
     pub fn step_owned(&mut self, event: Event) -> Reply
-        ensures { Step self.old event result self.new }
+        ensures does { Step self.old event result self.new }
+        ensures succeeds { EventSucceeds self.old.world event result }
     {
         match event {
             Event::Proc(pid, step) => self.step_of_owned(pid, step),
@@ -111,7 +114,8 @@ impl Engine {
     /// Does a step of a process.
     #[inline(always)]
     fn step_of(&mut self, pid: Pid, step: &events::Step) -> Reply
-        ensures { Answers self.old pid step.now result self.new }
+        ensures answers { Answers self.old pid step.now result self.new }
+        ensures succeeds { Succeeds self.old.world pid step.now result }
     {
         match step {
             events::Step::Open => self.open_reply(pid),
@@ -146,7 +150,8 @@ impl Engine {
     /// Does a step of a process, and consumes it.
     #[inline(always)]
     fn step_of_owned(&mut self, pid: Pid, step: events::Step) -> Reply
-        ensures { Answers self.old pid step result self.new }
+        ensures answers { Answers self.old pid step result self.new }
+        ensures succeeds { Succeeds self.old.world pid step result }
     {
         match step {
             events::Step::Send { on, bytes, attach } => {

@@ -4,6 +4,7 @@ ghost use Rattle.af_base.specs.declared.events.Step.TheVariants.{Accept, Dup, Du
 ghost use Rattle.af_base.specs.declared.events.Step.TheVariants.{Pair, Peek, Recv, Send, Socket};
 ghost use Rattle.af_base.specs.Run.{Step};
 ghost use Rattle.af_steps.specs.Outcome.{Answers};
+ghost use Rattle.af_steps.specs.Rooms.{Succeeds};
 
 use crate::engine::{Engine, reply_of};
 use af_base::events::{Event, Reply, SockType};
@@ -37,7 +38,8 @@ impl Engine {
     /// Duplicates a descriptor.
     #[inline(always)]
     pub(crate) fn dup_reply(&mut self, pid: Pid, from: Fd) -> Reply
-        ensures { Answers self.old pid (Dup from) result self.new }
+        ensures answers { Answers self.old pid (Dup from) result self.new }
+        ensures succeeds { Succeeds self.old.world pid (Dup from) result }
     {
         reply_of(self.dup(pid, from))
     }
@@ -45,7 +47,8 @@ impl Engine {
     /// Sets a descriptor to the file of another.
     #[inline(always)]
     pub(crate) fn dup2_reply(&mut self, pid: Pid, from: Fd, to: Fd) -> Reply
-        ensures { Answers self.old pid (Dup2 from to) result self.new }
+        ensures answers { Answers self.old pid (Dup2 from to) result self.new }
+        ensures succeeds { Succeeds self.old.world pid (Dup2 from to) result }
     {
         reply_of(self.dup2(pid, from, to))
     }
@@ -77,7 +80,8 @@ impl Engine {
     /// Accepts an embryo.
     #[inline(always)]
     pub(crate) fn accept_reply(&mut self, pid: Pid, on: Fd) -> Reply
-        ensures { Answers self.old pid (Accept on) result self.new }
+        ensures answers { Answers self.old pid (Accept on) result self.new }
+        ensures succeeds { Succeeds self.old.world pid (Accept on) result }
     {
         reply_of(self.accept(pid, on))
     }
@@ -93,7 +97,8 @@ impl Engine {
     /// Receives a message.
     #[inline(always)]
     pub(crate) fn recv_reply(&mut self, pid: Pid, on: Fd, max_bytes: u32, max_fds: u32) -> Reply
-        ensures { Answers self.old pid (Recv on max_bytes max_fds) result self.new }
+        ensures answers { Answers self.old pid (Recv on max_bytes max_fds) result self.new }
+        ensures succeeds { Succeeds self.old.world pid (Recv on max_bytes max_fds) result }
     {
         match self.recv(pid, on, max_bytes, max_fds) {
             Ok(received) => Reply::from(received),

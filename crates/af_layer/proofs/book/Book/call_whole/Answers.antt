@@ -26,7 +26,7 @@ returns-then-is_err-clause-refused c =
 
 pub copy-logged-requires : goal.copy-logged-requires
 copy-logged-requires c =
-    replies_fit c.in-Ok.room c.self.inside.engine c.args.event c.step-reply.result c.step-reply.new.self c.lemma_is_sound.ensures.sound (omega (arith, c.in-Ok.ensures.bytes)) (omega (arith, c.in-Ok.ensures.fds)) c.step-reply.ensures
+    replies_fit c.in-Ok.room c.self.inside.engine c.args.event c.step-reply.result c.step-reply.new.self c.lemma_is_sound.ensures.sound (omega (arith, c.in-Ok.ensures.bytes)) (omega (arith, c.in-Ok.ensures.fds)) c.step-reply.ensures.does
 
 pub returns-clause-refused : goal.returns-clause-refused
 returns-clause-refused c =
@@ -39,4 +39,4 @@ invariant_of-self-2 c =
     logged c.self.inside.seats c.self.inside.start.value c.self.inside.engine c.step-reply.new.self c.self.inside.log.items c.room_for.new.log.items c.push_reserved.new.self.items
     (record { seat = c.args.seat; event = c.args.event; reply = c.copy-logged.result }) c.room_for.ensures.log
     (c.push_reserved.ensures.items ∙ ap (λ (e : Entry). c.room_for.new.log.items ++ e ∷ []) c.of-entry.ensures)
-    seat.0 seat.1 c.self.invariant (subst (λ r. Step c.self.inside.engine c.args.event r c.step-reply.new.self) (sym c.copy-logged.ensures) c.step-reply.ensures)
+    seat.0 seat.1 c.self.invariant (subst (λ r. Step c.self.inside.engine c.args.event r c.step-reply.new.self) (sym c.copy-logged.ensures) c.step-reply.ensures.does)

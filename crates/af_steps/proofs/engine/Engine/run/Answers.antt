@@ -34,5 +34,5 @@ pub loop-event-preserved : goal.loop-event-preserved
 loop-event-preserved c = (
   search rules,
   run-more c.args.self.now c.loop-event.self c.step-reply.new.self c.args.events.now c.loop-event.done.items c.push_reserved.new.self.items c.loop-event.event-index c.event-item.result c.step-reply.result
-      c.loop-event.invariant.0 (search rules) c.event-item.is c.loop-event.invariant.1 c.step-reply.ensures (search rules),
+      c.loop-event.invariant.0 (search rules) c.event-item.is c.loop-event.invariant.1 c.step-reply.ensures.does (search rules),
 )
