@@ -268,13 +268,15 @@ int64_t jw_spawn(jw_engine *engine, uint32_t uid, uint32_t nofile, bool privileg
 JW_MUST_USE JW_NONNULL(1)
 int64_t jw_open(jw_engine *engine, uint32_t pid);
 
-/* Duplicates a descriptor (dup(2)). Answers the new descriptor, the lowest that is free.
+/* Duplicates a descriptor (dup(2)). Answers the new descriptor, the lowest that is free. Needs no
+ * memory where a higher one is open.
  * Errors: JW_ESRCH, JW_EBADF, JW_EMFILE, JW_ENOMEM. */
 JW_MUST_USE JW_NONNULL(1)
 int64_t jw_dup(jw_engine *engine, uint32_t pid, uint32_t fd);
 
 /* Duplicates a descriptor at a given number, in place of what that number had (dup2(2)). Answers
- * that number.
+ * that number. Needs no memory where it or a higher one is open: so one such call reserves room for
+ * all below.
  * Errors: JW_ESRCH, JW_EBADF, JW_ENOMEM. */
 JW_MUST_USE JW_NONNULL(1)
 int64_t jw_dup2(jw_engine *engine, uint32_t pid, uint32_t from, uint32_t to);
@@ -335,7 +337,7 @@ JW_MUST_USE JW_NONNULL(1)
 int64_t jw_connect(jw_engine *engine, uint32_t pid, uint32_t fd, const void *name, size_t len);
 
 /* Accepts the connection that waits longest at a listener (accept(2)). Answers the new socket's
- * descriptor.
+ * descriptor, the lowest that is free. Needs no memory where a higher one is open.
  * Errors: JW_ESRCH, JW_EBADF, JW_ENOTSOCK, JW_EINVAL, JW_EAGAIN, JW_EMFILE, JW_ENOMEM. */
 JW_MUST_USE JW_NONNULL(1)
 int64_t jw_accept(jw_engine *engine, uint32_t pid, uint32_t fd);
@@ -356,7 +358,8 @@ int64_t jw_send(jw_engine *engine, uint32_t pid, uint32_t fd, const void *bytes,
  * out how many descriptors there are and what did not fit. Answers how many bytes it wrote, or 0
  * where nothing is left and the peer is gone.
  * A packet's bytes beyond len are dropped; a stream's wait for the next receive. Descriptors beyond
- * nfds or beyond the free ones are closed.
+ * nfds or beyond the free ones are closed. Needs no memory for a packet that brings no descriptors,
+ * or up to 4 where the highest below the process's limit is open.
  * Errors: JW_ESRCH, JW_EBADF, JW_ENOTSOCK, JW_EINVAL, JW_ENOTCONN, JW_EAGAIN, JW_ENOMEM. */
 JW_MUST_USE JW_NONNULL(1, 8)
 int64_t jw_recv(jw_engine *engine, uint32_t pid, uint32_t fd, void *bytes, size_t len,

@@ -6,12 +6,15 @@ use Rattle.af_base.specs.declared.errno.Errno.{Errno}
 use Rattle.af_base.specs.declared.errno.Errno.TheVariants.{ENOMEM}
 use Rattle.af_base.specs.declared.events.Event.{Event}
 use Rattle.af_base.specs.declared.events.Reply.{Reply}
+use Rattle.af_steps.specs.Rooms.{EventSucceeds}
 use Rattle.scm_c.specs.Codes.{code_of, error_code, no_engine}
 
--- The engine behind the handle does this event with this reply: one step of the machine.
+-- The engine behind the handle does this event with this reply: one step of the machine, and its
+-- answer where the event cannot fail.
 abbrev pub EngineDoes : Option Machine → Event → Reply → Option Machine → Type 0
 EngineDoes old event r new =
-    (m : Machine) × (n : Machine) × (old ≡ Some m) × (new ≡ Some n) × Step m event r n
+    (m : Machine) × (n : Machine) × (old ≡ Some m) × (new ≡ Some n) × EventSucceeds m.world event r
+    × Step m event r n
 
 -- There is no engine, and the call says so.
 abbrev pub Lacks : Option Machine → ℤ → Option Machine → Type 0

@@ -74,7 +74,8 @@ fn push_first(fds: &[u32], first: &mut ArrayVec<Fd, MOST>)
 /// bytes it wrote, or 0 where nothing is left and the peer is gone.
 ///
 /// A packet's bytes beyond `len` are dropped; a stream's wait for the next receive. Descriptors
-/// beyond `nfds` or beyond the free ones are closed.
+/// beyond `nfds` or beyond the free ones are closed. Needs no memory for a packet that brings no
+/// descriptors, or up to 4 where the highest below the process's limit is open.
 ///
 /// Errors: JW_ESRCH, JW_EBADF, JW_ENOTSOCK, JW_EINVAL, JW_ENOTCONN, JW_EAGAIN, JW_ENOMEM.
 #[must_use]

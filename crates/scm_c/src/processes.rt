@@ -50,7 +50,8 @@ pub extern "C" fn jw_open(alloc: Global, engine: &mut Handle, pid: u32) -> i64
     }
 }
 
-/// Duplicates a descriptor (dup(2)). Answers the new descriptor, the lowest that is free.
+/// Duplicates a descriptor (dup(2)). Answers the new descriptor, the lowest that is free. Needs no
+/// memory where a higher one is open.
 ///
 /// Errors: JW_ESRCH, JW_EBADF, JW_EMFILE, JW_ENOMEM.
 #[must_use]
@@ -62,7 +63,8 @@ pub extern "C" fn jw_dup(alloc: Global, engine: &mut Handle, pid: u32, fd: u32) 
 }
 
 /// Duplicates a descriptor at a given number, in place of what that number had (dup2(2)). Answers
-/// that number.
+/// that number. Needs no memory where it or a higher one is open: so one such call reserves room
+/// for all below.
 ///
 /// Errors: JW_ESRCH, JW_EBADF, JW_ENOMEM.
 #[must_use]

@@ -156,7 +156,7 @@ pub extern "C" fn jw_connect(
 }
 
 /// Accepts the connection that waits longest at a listener (accept(2)). Answers the new socket's
-/// descriptor.
+/// descriptor, the lowest that is free. Needs no memory where a higher one is open.
 ///
 /// Errors: JW_ESRCH, JW_EBADF, JW_ENOTSOCK, JW_EINVAL, JW_EAGAIN, JW_EMFILE, JW_ENOMEM.
 #[must_use]

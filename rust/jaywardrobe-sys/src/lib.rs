@@ -227,12 +227,14 @@ unsafe extern "C" {
     ///
     /// Errors: JW_ESRCH, JW_EMFILE, JW_ENFILE, JW_ENOMEM.
     pub fn jw_open(engine: *mut jw_engine, pid: u32) -> i64;
-    /// Duplicates a descriptor (dup(2)). Answers the new descriptor, the lowest that is free.
+    /// Duplicates a descriptor (dup(2)). Answers the new descriptor, the lowest that is free. Needs
+    /// no memory where a higher one is open.
     ///
     /// Errors: JW_ESRCH, JW_EBADF, JW_EMFILE, JW_ENOMEM.
     pub fn jw_dup(engine: *mut jw_engine, pid: u32, fd: u32) -> i64;
     /// Duplicates a descriptor at a given number, in place of what that number had (dup2(2)).
-    /// Answers that number.
+    /// Answers that number. Needs no memory where it or a higher one is open: so one such call
+    /// reserves room for all below.
     ///
     /// Errors: JW_ESRCH, JW_EBADF, JW_ENOMEM.
     pub fn jw_dup2(engine: *mut jw_engine, pid: u32, from: u32, to: u32) -> i64;
@@ -288,7 +290,7 @@ unsafe extern "C" {
         len: usize,
     ) -> i64;
     /// Accepts the connection that waits longest at a listener (accept(2)). Answers the new
-    /// socket's descriptor.
+    /// socket's descriptor, the lowest that is free. Needs no memory where a higher one is open.
     ///
     /// Errors: JW_ESRCH, JW_EBADF, JW_ENOTSOCK, JW_EINVAL, JW_EAGAIN, JW_EMFILE, JW_ENOMEM.
     pub fn jw_accept(engine: *mut jw_engine, pid: u32, fd: u32) -> i64;
@@ -313,7 +315,8 @@ unsafe extern "C" {
     /// many bytes it wrote, or 0 where nothing is left and the peer is gone.
     ///
     /// A packet's bytes beyond len are dropped; a stream's wait for the next receive. Descriptors
-    /// beyond nfds or beyond the free ones are closed.
+    /// beyond nfds or beyond the free ones are closed. Needs no memory for a packet that brings no
+    /// descriptors, or up to 4 where the highest below the process's limit is open.
     ///
     /// Errors: JW_ESRCH, JW_EBADF, JW_ENOTSOCK, JW_EINVAL, JW_ENOTCONN, JW_EAGAIN, JW_ENOMEM.
     pub fn jw_recv(

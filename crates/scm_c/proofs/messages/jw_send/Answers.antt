@@ -20,7 +20,7 @@ returns-in-Ok c =
     let did = subst (λ xs. Answers old c.args.pid (sends xs) replied new) first (does-step old c.args.pid (sends c.as_slice.result.now) new replied c.in-Ok.ensures.done) in
     let all = first-suffice old new c.args.pid c.args.fd c.args.bytes.now c.args.fds.now replied did in
     let answers : to_z w64 (of_z w64 c.from.result) ≡ code_of replied = search rules in
-    replies c.args.engine.now.shown old new c.in-Some.ensures.value c.args.pid (sends c.args.fds.now) _ replied all answers
+    replies c.args.engine.now.shown old new c.in-Some.ensures.value c.args.pid (sends c.args.fds.now) (λ room. room) _ replied all answers
 
 pub returns-in-Err : goal.returns-in-Err
 returns-in-Err c =
@@ -32,4 +32,4 @@ returns-in-Err c =
     let did = subst (λ xs. Answers old c.args.pid (sends xs) replied new) first (refuses-step old c.args.pid (sends c.as_slice.result.now) new c.in-Err.error c.in-Err.ensures.refused) in
     let all = first-suffice old new c.args.pid c.args.fd c.args.bytes.now c.args.fds.now replied did in
     let answers : to_z w64 (of_z w64 c.refusal.result) ≡ code_of replied = search rules in
-    replies c.args.engine.now.shown old new c.in-Some.ensures.value c.args.pid (sends c.args.fds.now) _ replied all answers
+    replies c.args.engine.now.shown old new c.in-Some.ensures.value c.args.pid (sends c.args.fds.now) (λ room. room) _ replied all answers

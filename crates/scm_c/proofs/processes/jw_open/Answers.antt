@@ -14,7 +14,7 @@ returns-in-Ok c =
     let new = c.open.new.self in
     let replied = reply.Fd c.in-Ok.fd in
     let answers : to_z w64 (of_z w64 c.from.result) ≡ code_of replied = search rules in
-    replies c.args.engine.now.shown old new c.in-Some.ensures.value c.args.pid step.Open _ replied (does-step old c.args.pid step.Open new replied c.in-Ok.ensures.done) answers
+    replies c.args.engine.now.shown old new c.in-Some.ensures.value c.args.pid step.Open (λ room. room) _ replied (does-step old c.args.pid step.Open new replied c.in-Ok.ensures.done) answers
 
 pub returns-in-Err : goal.returns-in-Err
 returns-in-Err c =
@@ -22,4 +22,4 @@ returns-in-Err c =
     let new = c.open.new.self in
     let replied = reply.Refused c.in-Err.error in
     let answers : to_z w64 (of_z w64 c.refusal.result) ≡ code_of replied = search rules in
-    replies c.args.engine.now.shown old new c.in-Some.ensures.value c.args.pid step.Open _ replied (refuses-step old c.args.pid step.Open new c.in-Err.error c.in-Err.ensures.refused) answers
+    replies c.args.engine.now.shown old new c.in-Some.ensures.value c.args.pid step.Open (λ room. room) _ replied (refuses-step old c.args.pid step.Open new c.in-Err.error c.in-Err.ensures.refused) answers

@@ -8,4 +8,4 @@ use Rattle.scm_c.proofs.sockets.jw_bind.Goals as goal
 pub returns : goal.returns
 returns c =
     let answers : to_z w64 (of_z w64 c.answer.result) ≡ c.answer.result = search rules in
-    concludes c.args.engine.now.shown c.in-Some.inside.now c.bind.new.self c.in-Some.ensures.value c.args.pid (step.Bind c.args.fd c.args.name.now) _ c.bind.result c.bind.ensures.done c.bind.ensures.refused (answers ∙ c.answer.ensures)
+    concludes c.args.engine.now.shown c.in-Some.inside.now c.bind.new.self c.in-Some.ensures.value c.args.pid (step.Bind c.args.fd c.args.name.now) (λ room. room) _ c.bind.result c.bind.ensures.done c.bind.ensures.refused (answers ∙ c.answer.ensures)
