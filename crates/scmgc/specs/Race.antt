@@ -4,7 +4,7 @@ pub mod Scripts
 pub mod Source
 pub mod Faults
 pub mod Parts
-use Rattle.std.specs.Prelude.{◌≡◌, ◌≤◌, ◌+◌, ◌-◌, ◌*◌, ◌/◌, ◌%◌, max, min, ℕ, zero, suc, List, [], ◌∷◌, ◌++◌, map, filter_map, nat_le, false, codes, Option, Some, None}
+use Rattle.std.specs.Prelude.{◌≡◌, ◌≤◌, ◌+◌, ◌-◌, ◌*◌, ◌/◌, ◌%◌, max, min, ℕ, zero, suc, List, [], ◌∷◌, ◌++◌, map, filter_map, length, nat_le, false, codes, Option, Some, None}
 use Rattle.std.specs.List.{count_by, flat_map}
 use Rattle.std.specs.Fmt.{decimal}
 use Rattle.std.specs.FinMap as finmap
@@ -130,7 +130,8 @@ pub data IsInParts (workers steps checkpoint : ℕ) : ℕ → List Entry → Typ
       → IsInParts workers steps checkpoint 0 log
   NextPart : (done n : ℕ) → (before part : List Entry)
       → IsInParts workers steps checkpoint done before
-      → n ≡ share_of workers checkpoint (steps - done) → worker_steps workers part ≡ workers * n
+      → n ≡ share_of workers checkpoint (steps - done)
+      → ((k : ℕ) → 1 ≤ k → k ≤ workers → length (of_seat k part) ≡ n)
       → ChildrenExitInPart workers part
       → IsInParts workers steps checkpoint (done + n) (before ++ part)
 

@@ -240,8 +240,8 @@ module _ (workers steps seed budget checkpoint : ℕ) (b book : BookView) (is : 
     whole-part k = part-append k went.log b.log
 
     -- A part more, in which each worker did its next steps.
-    pub goes-next : (n : ℕ) (sources parts new : List (List Event)) → AreLeft workers steps seed done sources → AreNext n sources parts new → LogHas (workers + 2) (IsOfPart parts n budget) b.log → n ≡ share_of workers checkpoint (steps - done) → worker_steps workers b.log ≡ workers * n → ChildrenExitInPart workers b.log → Continues workers steps seed budget checkpoint (done + n) book
-    goes-next n sources parts new left next has share counts exits = subst (Continues workers steps seed budget checkpoint (done + n)) (sym is) (record {
+    pub goes-next : (n : ℕ) (sources parts new : List (List Event)) → AreLeft workers steps seed done sources → AreNext n sources parts new → LogHas (workers + 2) (IsOfPart parts n budget) b.log → n ≡ share_of workers checkpoint (steps - done) → ((k : ℕ) → 1 ≤ k → k ≤ workers → length (of_seat k b.log) ≡ n) → ChildrenExitInPart workers b.log → Continues workers steps seed budget checkpoint (done + n) book
+    goes-next n sources parts new left next has share each exits = subst (Continues workers steps seed budget checkpoint (done + n)) (sym is) (record {
       here = refl;
       log = whole;
       legal = whole-legal;
@@ -251,7 +251,7 @@ module _ (workers steps seed budget checkpoint : ℕ) (b book : BookView) (is : 
         went.main_thread.0 ++ of_seat (workers + 2) b.log,
         whole-part (workers + 2) ∙ ap (λ l. l ++ of_seat (workers + 2) b.log) went.main_thread.1 ∙ append_assoc (spawned workers) went.main_thread.0 (of_seat (workers + 2) b.log),
       );
-      parts = subst (IsInParts workers steps checkpoint (done + n)) whole-is (NextPart done n went.log b.log went.parts share counts exits);
+      parts = subst (IsInParts workers steps checkpoint (done + n)) whole-is (NextPart done n went.log b.log went.parts share each exits);
     }) where
       count : length parts ≡ workers
       count = next.made_count ∙ left.count
@@ -310,22 +310,19 @@ module _ (workers steps seed budget checkpoint : ℕ) (b book : BookView) (is : 
 
 -- In a part each worker did this many steps.
 pub part-steps : (workers steps seed budget done n : ℕ) (b : BookView) (sources parts new : List (List Event)) → 5 ≤ steps → done + n ≤ steps → AreLeft workers steps seed done sources → AreNext n sources parts new
-    → IsLegalFrom b.start b.seats b.machine b.log → LogHas (workers + 2) (IsOfPart parts n budget) b.log → worker_steps workers b.log ≡ workers * n
-part-steps workers steps seed budget done n b sources parts new some fits left next legal has =
-    counted workers n b.log (λ i d lt. (legal.of_seats i d lt).0) each where
-      each : (k : ℕ) → 1 ≤ k → k ≤ workers → length (of_seat k b.log) ≡ n
-      each k low high =
-          let i = k - 1 in
-          let place : i + 1 ≡ k = omega (arith, low) in
-          let script = script_of (i + 1) workers steps seed in
-          let here = next.made i (omega (arith, low, high, left.count)) ∙ ap (take n) (left.each i (omega (arith, low, high))) in
-          let did = (has i (omega (arith, low, high))).0 (omega (arith, low, high, next.made_count, left.count)) ∙ here in
-          let pairs = length-map (of_seat (i + 1) b.log) (λ p. p.0) in
-          let events = ap length did ∙ length-take n (drop done script) in
-          let rest = length-drop done script in
-          let all = script-count (i + 1) workers steps seed some in
-          let few : min n (length (drop done script)) ≡ n = omega (arith, rest, all, fits) in
-          ap (λ m. length (of_seat m b.log)) (sym place) ∙ sym pairs ∙ events ∙ few
+    → LogHas (workers + 2) (IsOfPart parts n budget) b.log → (k : ℕ) → 1 ≤ k → k ≤ workers → length (of_seat k b.log) ≡ n
+part-steps workers steps seed budget done n b sources parts new some fits left next has k low high =
+    let i = k - 1 in
+    let place : i + 1 ≡ k = omega (arith, low) in
+    let script = script_of (i + 1) workers steps seed in
+    let here = next.made i (omega (arith, low, high, left.count)) ∙ ap (take n) (left.each i (omega (arith, low, high))) in
+    let did = (has i (omega (arith, low, high))).0 (omega (arith, low, high, next.made_count, left.count)) ∙ here in
+    let pairs = length-map (of_seat (i + 1) b.log) (λ p. p.0) in
+    let events = ap length did ∙ length-take n (drop done script) in
+    let rest = length-drop done script in
+    let all = script-count (i + 1) workers steps seed some in
+    let few : min n (length (drop done script)) ≡ n = omega (arith, rest, all, fits) in
+    ap (λ m. length (of_seat m b.log)) (sym place) ∙ sym pairs ∙ events ∙ few
 
 -- One more part of the race: less is left, and each worker did this many steps.
 pub next-part : (workers steps seed budget checkpoint done n : ℕ) (old b book : BookView) (sources parts new : List (List Event)) (counted_steps : ℕ) → 5 ≤ steps → done + n ≤ steps → n ≡ share_of workers checkpoint (steps - done) → Continues workers steps seed budget checkpoint done old → AreLeft workers steps seed done sources → AreNext n sources parts new
@@ -334,11 +331,11 @@ pub next-part : (workers steps seed budget checkpoint done n : ℕ) (old b book 
 next-part workers steps seed budget checkpoint done n old b book sources parts new counted_steps some fits share went left next part exits is counts =
     let few = next.made_count ∙ left.count in
     let lists : LogHas (workers + 2) (IsOfPart parts n budget) b.log = subst (λ m. LogHas (m + 2) (IsOfPart parts n budget) b.log) few part.lists in
-    let did = part-steps workers steps seed budget done n b sources parts new some fits left next part.legal lists in (
-      goes-next workers steps seed budget checkpoint b book is part.legal old done went part.origin.0 (part.origin.1 ∙ went.here) n sources parts new left next lists share did
+    let each = part-steps workers steps seed budget done n b sources parts new some fits left next lists in (
+      goes-next workers steps seed budget checkpoint b book is part.legal old done went part.origin.0 (part.origin.1 ∙ went.here) n sources parts new left next lists share each
           (subst (λ m. ChildrenExitInPart m b.log) few exits),
       left-less workers steps seed done n sources parts new left next,
-      counts ∙ ap (λ m. worker_steps m b.log) few ∙ did,
+      counts ∙ ap (λ m. worker_steps m b.log) few ∙ counted workers n b.log (λ i d lt. (part.legal.of_seats i d lt).0) each,
     )
 
 -- The race has ended well after the last part, with all that was counted.
