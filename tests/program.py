@@ -91,6 +91,8 @@ TWICE = [*(f"{race()} --{it} 1" for it in NUMBERS), f"{race(checkpoint=1)} --che
 RACES = [
     (race(workers=4, steps=2_000, seed=7, budget=8), 8_000),
     (race(), 5),
+    (race(workers=32), 160),
+    (race(steps=20_000, budget=65_536), 20_000),
     *((race(workers=4, steps=400, seed=it, budget=by), 1_600) for it in range(3) for by in (1, 8, 65_536)),
     (race(workers=2, steps=9, seed=8, budget=8), 18),
     (race(workers=2, steps=9, seed=8, budget=8, checkpoint=6), 18),
@@ -109,6 +111,10 @@ def command_lines(program: Program) -> Iterator[Check]:
         found = program.run(line, b"spawn 1000 16\n")
         yield line, found, found.status == 2 and not found.output and bool(found.error)
     yield program.check("the version", "--version", b"", Answer(2, b"", b"scmgc 0.2.0\n"))
+    no_text = b"error: invalid UTF-8 was detected in one or more arguments\n"
+    yield program.check("a word that is no text", "run \udcff", b"", Answer(2, b"", no_text))
+    found = program.run("run" + 20 * f" {99_999 * 'x'}", preexec_fn=bound_memory)
+    yield "words without memory", found, found == Answer(1, b"", b"scmgc: no memory\n")
     for line, said in [
         ("run --help", b"version 2"),
         ("run --help", b"P peek N N N"),
@@ -153,7 +159,7 @@ slice 65536
 pass
 """
 # A log has room for 1,048,576 entries. The start of a seat takes one, so the first form fills a log.
-CALLS = ["layer 1 1048575 3", "layer 4 500 3", "batches 1 1048560 3", "shared 4 2000 3", "engine 10 3", "lock 10 3"]
+CALLS = ["layer 1 1048575 3", "layer 64 500 3", "batches 1 1048560 3", "shared 4 2000 3", "engine 10 3", "lock 10 3"]
 BENCHMARKS = [("script 1 4 3", SHORT), ("script 1 7 3", EACH_EVENT), *((it, b"") for it in CALLS)]
 # The last call finds no room for its entry.
 REFUSED = [("script 1 1 1", b"spawn 1000 16\n1 close 0\n"), ("layer 1 1048576 1", b""), ("batches 1 1048576 1", b"")]
@@ -168,6 +174,8 @@ def benchmarks(program: Program) -> Iterator[Check]:
     yield program.check("a report", "bench script 1 1 1", b"check\n", Answer(1, b"", b"scmgc: a line is no event\n"))
     for form, script in REFUSED:
         yield program.check(form, f"bench {form}", script, Answer(1, b"", b"scmgc: an event was refused\n"))
+    # A layer has 64 seats at most.
+    yield program.check("seats", "bench layer 65 1 1", b"", Answer(1, b"", b"scmgc: no layer was opened\n"))
     fault = b"scmgc: runs and events do not come out even\n"
     yield program.check("uneven", "bench script 1 2 1", b"spawn 1 2\n1 open\n1 open\n1 open\n", Answer(1, b"", fault))
 
@@ -300,6 +308,7 @@ def streams(program: Program) -> Iterator[Check]:
     yield writes_at_most(program, 0, BAD_SCRIPT, Answer(1, b"", CANNOT_WRITE))
     yield writes_at_most(program, 100, BAD_SCRIPT, unreadable(4, b"pid 1\nfd 0\nfd 1\n"))
     yield writes_at_most(program, 0, MUCH, Answer(1, b"", CANNOT_WRITE))
+    yield reads_a_message_at_once(program)
     yield comes_in_thousands_of_reads(program)
     yield writes_much_at_once(program)
     yield refuses_a_long_line_at_once(program)
@@ -337,6 +346,15 @@ def writes_at_most(program: Program, taken: int, script: bytes, wanted: Answer) 
         output.seek(0)
         found = found._replace(output=output.read())
     return f"{taken} bytes written of {script[:30]!r}", found, found == wanted
+
+
+def reads_a_message_at_once(program: Program) -> Check:
+    """The script comes in one message. A read that asks for less loses what is left of it."""
+    ours, theirs = socket.socketpair(socket.AF_UNIX, socket.SOCK_SEQPACKET)
+    with theirs:
+        with ours:
+            ours.send(SCRIPT)
+        return reads_from(program, "one message", theirs, Answer(0, REPLIES))
 
 
 def comes_in_thousands_of_reads(program: Program) -> Check:
