@@ -1,6 +1,6 @@
 -- Machines that a legal log leads to from the fresh one.
 use Rattle.std.proofs.Common.{◌≡◌, ◌++◌, ℕ, List, [], sym, subst}
-use Rattle.std.specs.Prelude.{IfOk, OnErr, OnOk, Result, Ok, Err}
+use Rattle.std.specs.Prelude.{OnErr, OnOk, Result, Ok, Err}
 use Rattle.af_base.specs.Pass.{Machine}
 use Rattle.af_base.specs.Run.{fresh}
 use Rattle.af_layer.specs.Log.{BookView, Entry, IsLegalFrom, IsReached}
@@ -16,11 +16,6 @@ reached-on n start machine log reached legal = (reached.0 ++ log, legal-append f
 
 -- So it is when a log was taken, or nothing has changed.
 pub reached-after : {A E : Type 0} (X : Type 0) (old new : BookView) (r : Result A E) → IsReached old.seats old.start → IsLegalFrom old.start old.seats old.machine old.log
-    → OnOk r (new ≡ record old { start = old.machine; log = [] }) → OnErr r ((new ≡ old) × X) → IsReached new.seats new.start
+    → OnOk r (new ≡ record old { start = old.machine; log = []; room = 0 }) → OnErr r ((new ≡ old) × X) → IsReached new.seats new.start
 reached-after X old new (Ok a) reached legal made same = subst (λ (b : BookView). IsReached b.seats b.start) (sym made) (reached-on old.seats old.start old.machine old.log reached legal)
 reached-after X old new (Err e) reached legal made same = subst (λ (b : BookView). IsReached b.seats b.start) (sym same.0) reached
-
--- A fact of an answer, and a fact beside it.
-pub ok-beside : {A E Q : Type 0} (P R : A → Type 0) (r : Result A E) → ((a : A) → P a → Q → R a) → IfOk r P → OnOk r Q → IfOk r R
-ok-beside P R (Ok a) both p q = both a p q
-ok-beside P R (Err e) both p q = tt

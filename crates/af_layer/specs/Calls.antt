@@ -1,6 +1,6 @@
 -- The effect of a call, and when it does nothing. The definition that names no manual page is of
 -- this project's profile (docs/PROFILE.md).
-use Rattle.std.specs.Prelude.{◌≡◌, ◌++◌, ◌∷◌, [], ◌&&◌, Bool, if◌then◌else◌, ℕ, Option, Some, None, Result, Err, IfErr, length, nat_le}
+use Rattle.std.specs.Prelude.{◌≡◌, ◌≤◌, ◌+◌, ◌++◌, ◌∷◌, [], ◌&&◌, Bool, if◌then◌else◌, ℕ, Option, Some, None, Result, Err, IfErr, length, nat_le}
 use Rattle.af_base.specs.declared.events.Event.{Event}
 use Rattle.af_base.specs.declared.events.Reply.{Reply}
 use Rattle.af_base.specs.declared.limits.TheConstants.{MAX_LOG}
@@ -25,9 +25,10 @@ RefusedBy (Some e) r = r ≡ Err e
 RefusedBy None r = IfErr r (λ e. e ≡ fault.NoRoom)
 
 -- A call: the machine does one step, and the book appends the entry of this seat with the event and
--- its reply.
+-- its reply, which takes the place of one.
 pub record Calls (old : BookView) (seat : ℕ) (e : Event) (r : Reply) (new : BookView) : Type 0 where
   pub log : new.log ≡ old.log ++ record { seat = seat; event = e; reply = r } ∷ []
   pub step : Step old.machine e r new.machine
   pub seats : new.seats ≡ old.seats
   pub start : new.start ≡ old.start
+  pub room : old.room ≤ new.room + 1

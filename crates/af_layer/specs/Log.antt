@@ -45,12 +45,13 @@ abbrev pub IsReached : ℕ → Machine → Type 0
 IsReached seats machine = (earlier : List Entry) × IsLegal seats machine earlier
 
 -- The view of a book: the number of seats, the machine from which its log runs, the machine now,
--- and the log between them.
+-- the log between them, and how many entries more the log has memory for.
 pub record BookView : Type 0 where
   pub seats : ℕ
   pub start : Machine
   pub machine : Machine
   pub log : List Entry
+  pub room : ℕ
 
 -- The log of a book is legal, from a machine that is reached.
 pub record HasLegalLog (b : BookView) : Type 0 where

@@ -1,5 +1,6 @@
 -- Events and replies in few words, and the entries that are kept so. The definitions are this
 -- project's own.
+use Rattle.std.specs.Prelude.{Bool, true, false}
 use Rattle.af_base.specs.declared.events.Event.{Event}
 use Rattle.af_base.specs.declared.events.Event.TheVariants as event
 use Rattle.af_base.specs.declared.events.Reply.{Reply}
@@ -29,6 +30,17 @@ event_of (asked.Socket kind pid) = event.Proc pid (step.Socket kind)
 event_of (asked.Listen pid on backlog) = event.Proc pid (step.Listen on backlog)
 event_of (asked.Accept pid on) = event.Proc pid (step.Accept on)
 event_of (asked.Limit pid nofile) = event.Proc pid (step.Limit nofile)
+
+-- Few words tell the event: it is of a process, and neither it nor its reply has bytes.
+abbrev pub is_short : Event → Bool
+is_short (event.Spawn uid nofile privileged) = true
+is_short (event.Proc pid (step.Bind on name)) = false
+is_short (event.Proc pid (step.Connect on name)) = false
+is_short (event.Proc pid (step.Send on bytes attach)) = false
+is_short (event.Proc pid (step.Recv on max_bytes max_fds)) = false
+is_short (event.Proc pid (step.Peek on max_bytes max_fds)) = false
+is_short (event.Proc pid other) = true
+is_short other = false
 
 -- The reply that few words tell.
 abbrev pub reply_of : ShortReply → Reply

@@ -1,11 +1,11 @@
 //! The engine, and the log of all that it did.
-ghost use Rattle.std.specs.Prelude.{◌≡◌, ◌<◌, ◌≤◌, ◌++◌, ◌∷◌, [], IfOk, IsSome, OnErr, OnOk};
-ghost use Rattle.std.specs.Prelude.{vec_capacity, vec_len};
+ghost use Rattle.std.specs.Prelude.{◌≡◌, ◌≤◌, ◌-◌, [], IfErr, IfOk, IsOk, IsTrue, None, OnErr, OnOk};
+ghost use Rattle.std.specs.Prelude.{Some, length, min};
 ghost use Rattle.af_base.specs.Pass.{Machine};
 ghost use Rattle.af_base.specs.Run.{fresh};
 ghost use Rattle.af_layer.specs.Calls.{Calls, RefusedBy, call_refusal};
 ghost use Rattle.af_layer.specs.Log.{IsLegalFrom};
-ghost use Rattle.af_layer.specs.Short.{event_of, reply_of};
+ghost use Rattle.af_layer.specs.Short.{event_of, is_short, reply_of};
 
 use crate::entry::{Entry, Pair, fill};
 use crate::room::{ReplyRoom, reserve_touched};
@@ -66,6 +66,7 @@ impl Drop for Book {
 impl Model for Book {
     ghost use Rattle.std.specs.FinMap as map;
     ghost use Rattle.std.specs.Coded.{codes};
+    ghost use Rattle.std.specs.Prelude.{◌-◌, vec_capacity, vec_len};
     ghost use Rattle.af_layer.specs.Log.{BookView, IsLegalFrom};
 
     ghost Value = { BookView };
@@ -77,6 +78,7 @@ impl Model for Book {
       start = b.start.value;
       machine = b.engine;
       log = b.log.items;
+      room = vec_capacity b.log - vec_len b.log;
     } };
 
     ghost invariant = { λ b. IsLegalFrom b.start.value b.seats b.engine b.log.items };
@@ -87,7 +89,7 @@ impl Book {
     pub fn new(alloc: Global, seats: u32) -> Result<Book, AllocError>
         requires { (1 ≤ seats) × (seats ≤ MAX_SEATS) }
         ensures { IfOk result (λ book.
-            book ≡ record { seats = seats; start = fresh; machine = fresh; log = [] }) }
+            book ≡ record { seats = seats; start = fresh; machine = fresh; log = []; room = 0 }) }
     {
         let engine = Engine::new(alloc)?;
         let start = Snapshot::of(&engine);
@@ -127,7 +129,8 @@ impl Book {
     pub fn take_log(&mut self) -> Vec<Entry>
         ensures log { result.items ≡ self.old.log }
         ensures legal { IsLegalFrom self.old.start self.old.seats self.old.machine result.items }
-        ensures book { self.new ≡ record self.old { start = self.old.machine; log = [] } }
+        ensures book { self.new
+            ≡ record self.old { start = self.old.machine; log = []; room = 0 } }
     {
         self.start = Snapshot::of(&self.engine);
         mem::replace(&mut self.log, Vec::new(self.alloc))
@@ -137,7 +140,10 @@ impl Book {
     /// each page of it. Until they are there, no call takes memory for the log, or is the first to
     /// touch a page of it.
     pub fn reserve(&mut self, entries: usize) -> Result<(), AllocError>
-        ensures { self.new ≡ self.old }
+        ensures room { OnOk result
+            (min entries (MAX_LOG - length self.old.log) ≤ self.new.room) }
+        ensures kept { self.old.room ≤ self.new.room }
+        ensures same { self.new ≡ record self.old { room = self.new.room } }
     {
         let most = MAX_LOG.saturating_sub(self.log.len());
         reserve_touched(&mut self.log, entries.min(most), Entry::blank)
@@ -153,10 +159,13 @@ impl Book {
     /// Does one event for the seat of this number, and puts it with its reply into the log.
     ///
     /// Room for the entry is reserved before the step, so that each step is logged. Out of memory
-    /// in the step itself is a reply, and is logged.
+    /// in the step itself is a reply, and is logged. An event of a process needs no other memory to
+    /// be logged, unless it or its reply may have bytes.
     pub fn call(&mut self, seat: u32, event: Event) -> Result<Reply, CallError>
         ensures done { IfOk result (λ reply. Calls self.old seat event reply self.new) }
         ensures refused { RefusedBy (call_refusal self.old seat) result }
+        ensures succeeds { IsTrue (is_short event) → call_refusal self.old seat ≡ None
+            → 1 ≤ self.old.room → IsOk result }
         ensures same { OnErr result (self.new ≡ self.old) }
     {
         match ShortEvent::of(event) {
@@ -175,9 +184,13 @@ impl Book {
         ensures done { IfOk result (λ reply.
             Calls self.old seat (event_of event.now) (reply_of reply) self.new) }
         ensures refused { RefusedBy (call_refusal self.old seat) result }
+        ensures succeeds { call_refusal self.old seat ≡ None → 1 ≤ self.old.room → IsOk result }
         ensures same { OnErr result (self.new ≡ self.old) }
     {
-        room_for(self.seats, &mut self.log, seat)?;
+        self.check(seat)?;
+        if self.log.reserve(1).is_err() {
+            return Err(CallError::NoRoom);
+        }
         let reply = event.step(&mut self.engine);
         self.log
             .push_reserved(Entry::short(seat as u8, event, &reply));
@@ -190,13 +203,16 @@ impl Book {
         ensures refused { RefusedBy (call_refusal self.old seat) result }
         ensures same { OnErr result (self.new ≡ self.old) }
     {
-        room_for(self.seats, &mut self.log, seat)?;
+        self.check(seat)?;
         if fill(self.alloc, &mut self.spare).is_err() {
             return Err(CallError::NoRoom);
         }
         let Ok(room) = ReplyRoom::for_event(self.alloc, &event) else {
             return Err(CallError::NoRoom);
         };
+        if self.log.reserve(1).is_err() {
+            return Err(CallError::NoRoom);
+        }
         // The reply of a sound world fits in the room.
         self.engine.lemma_is_sound();
         let reply = self.engine.step(&event);
@@ -205,30 +221,20 @@ impl Book {
         self.log.push_reserved(entry);
         Ok(reply)
     }
-}
 
-/// Reserves room in the log of this many seats for an entry of this one; or returns why the call
-/// does nothing. The log is unchanged.
-#[inline(always)]
-fn room_for(seats: u32, log: &mut Vec<Entry>, seat: u32) -> Result<(), CallError>
-    ensures entry { OnOk result (vec_len log.new < vec_capacity log.new) }
-    ensures seat { OnOk result ((1 ≤ seat) × (seat ≤ seats)) }
-    ensures refused { (start machine : Machine) → RefusedBy (call_refusal (record {
-      seats = seats;
-      start = start;
-      machine = machine;
-      log = log.old.items;
-    }) seat) result }
-    ensures log { log.new.items ≡ log.old.items }
-{
-    if seat == 0 || seat > seats {
-        return Err(CallError::NoSeat);
+    /// Refuses a call of a seat that is not there, or on a full log.
+    #[inline(always)]
+    fn check(&self, seat: u32) -> Result<(), CallError>
+        ensures open { OnOk result (call_refusal self.now seat ≡ None) }
+        ensures seat { OnOk result ((1 ≤ seat) × (seat ≤ self.now.seats)) }
+        ensures err { IfErr result (λ e. call_refusal self.now seat ≡ Some e) }
+    {
+        if seat == 0 || seat > self.seats {
+            return Err(CallError::NoSeat);
+        }
+        if self.log.len() >= MAX_LOG {
+            return Err(CallError::LogFull);
+        }
+        Ok(())
     }
-    if log.len() >= MAX_LOG {
-        return Err(CallError::LogFull);
-    }
-    if log.reserve(1).is_err() {
-        return Err(CallError::NoRoom);
-    }
-    Ok(())
 }

@@ -17,7 +17,7 @@ impl Book {
         ensures whole { OnOk result (IsWholeBook self.old seats.old) }
         ensures log { IfOk result (λ log. log.items ≡ self.old.log) }
         ensures book { OnOk result
-            (self.new ≡ record self.old { start = self.old.machine; log = [] }) }
+            (self.new ≡ record self.old { start = self.old.machine; log = []; room = 0 }) }
         ensures seats { OnOk result (AreEmptied seats.old seats.new) }
         ensures fault { IfErr result (HasFault self.old seats.old) }
         ensures same { OnErr result ((self.new ≡ self.old) × (seats.new ≡ seats.old)) }

@@ -1,6 +1,7 @@
 //! Where the log of a layer begins.
-ghost use Rattle.std.specs.Prelude.{◌≡◌, ◌<◌, ◌⊎◌, ◌++◌, ◌∷◌, ℕ, [], IfErr, IfOk, None, OnErr, OnOk};
-ghost use Rattle.std.specs.Prelude.{Some, vec_capacity, vec_len};
+ghost use Rattle.std.specs.Prelude.{◌≡◌, ◌<◌, ◌≤◌, ◌-◌, ◌⊎◌, ◌++◌, ◌∷◌, ℕ, [], IfErr, IfOk, None};
+ghost use Rattle.std.specs.Prelude.{OnErr, OnOk, Some, length, min, vec_capacity, vec_len};
+ghost use Rattle.af_base.specs.declared.limits.TheConstants.{MAX_LOG};
 ghost use Rattle.af_base.specs.declared.events.Reply.{Reply as Answer};
 ghost use Rattle.af_base.specs.Pass.{Machine};
 ghost use Rattle.af_base.specs.Run.{fresh};
@@ -162,7 +163,10 @@ impl<O: Origin> BookFrom<O> {
 
     /// Reserves room in the log: [`Book::reserve`].
     pub fn reserve(&mut self, entries: usize) -> Result<(), AllocError>
-        ensures { self.new ≡ self.old }
+        ensures room { OnOk result
+            (min entries (MAX_LOG - length self.old.log) ≤ self.new.room) }
+        ensures kept { self.old.room ≤ self.new.room }
+        ensures same { self.new ≡ record self.old { room = self.new.room } }
     {
         self.book.reserve(entries)
     }
@@ -176,7 +180,7 @@ impl BookFrom<AtCheckpoint> {
         ensures log { IfOk result (λ log. log.items ≡ self.old.log) }
         ensures whole { OnOk result (IsWholeBook self.old seats.old) }
         ensures book { OnOk result
-            (self.new ≡ record self.old { start = self.old.machine; log = [] }) }
+            (self.new ≡ record self.old { start = self.old.machine; log = []; room = 0 }) }
         ensures seats { OnOk result (AreEmptied seats.old seats.new) }
         ensures fault { IfErr result (HasFault self.old seats.old) }
         ensures same { OnErr result ((self.new ≡ self.old) × (seats.new ≡ seats.old)) }

@@ -115,6 +115,7 @@ pub fn reserve_touched<T: Drop, F: Fn() -> T>(
     requires { F.IsAlwaysCallable blank }
     ensures same { list.new.items ≡ list.old.items }
     ensures room { OnOk result (vec_len list.old + more ≤ vec_capacity list.new) }
+    ensures capacity { vec_capacity list.old ≤ vec_capacity list.new }
 {
     let len = list.len();
     if list.capacity() - len >= more {

@@ -2,9 +2,9 @@
 //!
 //! An event is matched once, and does its typed call. So no event is made from few words before it
 //! is done, and no reply is taken apart into them after.
-ghost use Rattle.std.specs.Prelude.{◌≡◌, IfErr, IfOk, IfSome};
+ghost use Rattle.std.specs.Prelude.{◌≡◌, IfErr, IfOk, IfSome, IsOk, IsTrue};
 ghost use Rattle.af_base.specs.Run as run;
-ghost use Rattle.af_layer.specs.Short.{event_of, reply_of, turn_reply_of};
+ghost use Rattle.af_layer.specs.Short.{event_of, is_short, reply_of, turn_reply_of};
 
 use af_base::errno::Errno;
 use af_base::events::{Event, Reply, SockType, Step};
@@ -56,6 +56,7 @@ impl ShortEvent {
     pub fn of(event: Event) -> Result<ShortEvent, Event>
         ensures short { IfOk result (λ short. event_of short ≡ event) }
         ensures other { IfErr result (λ other. other ≡ event) }
+        ensures succeeds { IsTrue (is_short event) → IsOk result }
     {
         match event {
             Event::Spawn {
@@ -76,6 +77,7 @@ impl ShortEvent {
     fn of_step(pid: Pid, step: Step) -> Result<ShortEvent, Step>
         ensures short { IfOk result (λ short. event_of short ≡ Event.Proc pid step) }
         ensures other { IfErr result (λ other. other ≡ step) }
+        ensures succeeds { IsTrue (is_short (Event.Proc pid step)) → IsOk result }
     {
         Ok(match step {
             Step::Open => ShortEvent::Open(pid),

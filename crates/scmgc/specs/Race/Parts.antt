@@ -33,7 +33,7 @@ pub record IsPart (begins : ℕ → Machine → Type 0) (n : ℕ) (P : ℕ → L
 
 -- A book whose log was taken.
 abbrev pub taken : BookView → BookView
-taken b = record b { start = b.machine; log = [] }
+taken b = record b { start = b.machine; log = []; room = 0 }
 
 -- At the start the last seat has started the processes.
 abbrev pub IsOfStart : ℕ → ℕ → List Pair → Type 0
