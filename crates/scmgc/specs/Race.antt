@@ -135,12 +135,13 @@ pub data IsInParts (workers steps checkpoint : ℕ) : ℕ → List Entry → Typ
       → ChildrenExitInPart workers part
       → IsInParts workers steps checkpoint (done + n) (before ++ part)
 
--- The log of a race with checkpoints that ended well: the logs taken at them, put together, and the
--- last one, of a last pass.
+-- The log of a race with checkpoints that ended well: the logs taken at them, put together. The
+-- last one ends with a whole pass of the main thread, which was done.
 pub record RacedInParts (workers steps seed budget checkpoint : ℕ) (b : BookView) : Type 0 where
   pub raced : RacedBy (TurnedInParts budget) workers steps seed b
   pub parts : (before last : List Entry) × (b.log ≡ before ++ last)
       × IsInParts workers steps checkpoint steps before
+      × EndsInPass [] (of_seat (workers + 2) last)
 
 -- A book with this log since the beginning.
 abbrev pub with_log : BookView → List Entry → BookView

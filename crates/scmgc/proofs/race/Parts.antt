@@ -281,7 +281,7 @@ module _ (workers steps seed budget checkpoint : ℕ) (b book : BookView) (is : 
       whole,
       subst (λ v. RacedInParts workers steps seed budget checkpoint (with_log v whole)) (sym is) (record {
         raced = raced;
-        parts = (went.log, b.log, sym whole-is, subst (λ n. IsInParts workers steps checkpoint n went.log) all went.parts);
+        parts = (went.log, b.log, sym whole-is, subst (λ n. IsInParts workers steps checkpoint n went.log) all went.parts, ended);
       }),
     ) where
       same : (k : ℕ) → 1 ≤ k → k ≤ workers + 1 → of_seat k whole ≡ of_seat k went.log
