@@ -6,6 +6,8 @@ mod books;
 #[cfg(test)]
 mod checkpoints;
 #[cfg(test)]
+mod cycle;
+#[cfg(test)]
 mod full_logs;
 #[cfg(test)]
 mod gates;
