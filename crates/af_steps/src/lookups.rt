@@ -88,8 +88,8 @@ pub fn socket_on(store: &Store, pid: Pid, on: Fd) -> Result<(&Process, FileRef, 
     Ok((process, file, socket))
 }
 
-/// Reserves room to install at this descriptor of the process, which is below its limit, unless
-/// there is room, which the caller says. No process can see a change, also on an error.
+/// Reserves room to install at this descriptor, which is below the process's limit, unless the
+/// caller says that there is room. No process can see a change, also on an error.
 #[inline(always)]
 pub fn make_room_at(store: &mut Store, pid: Pid, fd: Fd, has_room: bool) -> Result<(), AllocError>
     requires said { has_room ≡ nat_lt fd (room_at store.old pid) }
@@ -98,7 +98,7 @@ pub fn make_room_at(store: &mut Store, pid: Pid, fd: Fd, has_room: bool) -> Resu
     ensures pass { store.new.pass ≡ store.old.pass }
     ensures since { store.new.since ≡ store.old.since }
     ensures row { OnOk result (fd < room_at store.new pid) }
-    ensures ready { has_room ≡ true → IsOk result }
+    ensures succeeds { has_room ≡ true → IsOk result }
 {
     if has_room {
         return Ok(());

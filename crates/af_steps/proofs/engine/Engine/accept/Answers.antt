@@ -116,4 +116,4 @@ make_room_at-requires c =
 pub returns-in_err-make_room_at-clause-succeeds : goal.returns-in_err-make_room_at-clause-succeeds
 returns-in_err-make_room_at-clause-succeeds c =
     let at = (goal.at.returns-in_err-make_room_at-clause-succeeds c).After-make_room_at in
-    not-starved c.self.view_is c.args.pid (step.Accept c.args.on) c.from_residual-in_err-make_room_at.result c.in_err-make_room_at.was (λ sure. c.make_room_at.ensures.ready (c.has_room_at-has_room.ensures.open (open-from-lowest (has at).number.process (least at) sure.room)))
+    not-starved c.self.view_is c.args.pid (step.Accept c.args.on) c.from_residual-in_err-make_room_at.result c.in_err-make_room_at.was (λ sure. c.make_room_at.ensures.succeeds (c.has_room_at-has_room.ensures.open (open-from-lowest (has at).number.process (least at) sure.room)))

@@ -75,4 +75,4 @@ pub returns-in_err-make_room_at-clause-succeeds : goal.returns-in_err-make_room_
 returns-in_err-make_room_at-clause-succeeds c =
     let found = c.in_ok-process.ensures.found in
     let least : IsLowest c.in_ok-process.process.now.process c.in_ok-fd.fd = record { read = search rules } in
-    not-starved c.self.view_is c.args.pid (step.Dup c.args.from) c.from_residual-in_err-make_room_at.result c.in_err-make_room_at.was (λ sure. c.make_room_at.ensures.ready (c.has_room_at-has_room.ensures.open (open-from-lowest found.process least sure.room)))
+    not-starved c.self.view_is c.args.pid (step.Dup c.args.from) c.from_residual-in_err-make_room_at.result c.in_err-make_room_at.was (λ sure. c.make_room_at.ensures.succeeds (c.has_room_at-has_room.ensures.open (open-from-lowest found.process least sure.room)))

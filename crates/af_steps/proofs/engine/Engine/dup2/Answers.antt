@@ -69,4 +69,4 @@ returns-clause-done c =
 pub returns-in_err-make_room_at-clause-succeeds : goal.returns-in_err-make_room_at-clause-succeeds
 returns-in_err-make_room_at-clause-succeeds c =
     not-starved c.self.view_is c.args.pid (step.Dup2 c.args.from c.args.to) c.from_residual-in_err-make_room_at.result c.in_err-make_room_at.was
-    (λ sure. c.make_room_at.ensures.ready (c.has_room_at-has_room.ensures.open (open-from c.in_ok-process.ensures.found.process c.args.to sure.room)))
+    (λ sure. c.make_room_at.ensures.succeeds (c.has_room_at-has_room.ensures.open (open-from c.in_ok-process.ensures.found.process c.args.to sure.room)))

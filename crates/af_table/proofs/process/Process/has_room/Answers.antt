@@ -1,4 +1,4 @@
-use Rattle.std.proofs.Common.{rules, arith, ◌<◌, ◌-◌, ◌∙◌, sym, ap, subst}
+use Rattle.std.proofs.Common.{rules, arith, ◌<◌, ◌-◌, sym, subst}
 use Rattle.std.specs.Prelude.{vec_len}
 use Rattle.af_table.specs.Rooms.{IsOpenFrom}
 use Rattle.af_table.proofs.Tables.{room_below}
