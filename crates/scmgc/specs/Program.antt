@@ -6,7 +6,8 @@ use Rattle.scm_run.specs.declared.fault.RunFault.{RunFault}
 use Rattle.scm_run.specs.declared.fault.RunFault.TheVariants as fault
 use Rattle.scmgc.specs.Played.{Played}
 use Rattle.scmgc.specs.declared.play.show.Style.{Style}
-use Rattle.scmgc.specs.Race.{LongRaceText, RaceText}
+use Rattle.scmgc.specs.Race.Parts.{LongRaceText}
+use Rattle.scmgc.specs.Race.{RaceText}
 use Rattle.scmgc.specs.declared.task.Task.{Task}
 use Rattle.scmgc.specs.declared.task.Task.TheVariants.{Play, Race, Run}
 

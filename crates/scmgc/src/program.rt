@@ -9,7 +9,8 @@ ghost use Rattle.scmgc.specs.Task.{IsInRange, Names, fits};
 ghost use Rattle.scmgc.specs.declared.task.Task.{Task as Asked};
 ghost use Rattle.scmgc.specs.declared.task.Task.TheVariants as task;
 ghost use Rattle.scmgc.specs.Played.{Played};
-ghost use Rattle.scmgc.specs.Race.{LongRaceText, RaceText};
+ghost use Rattle.scmgc.specs.Race.Parts.{LongRaceText};
+ghost use Rattle.scmgc.specs.Race.{RaceText};
 
 use crate::play::{PlayFault, Style, play};
 use crate::race::{LongRace, Race, RaceFault};

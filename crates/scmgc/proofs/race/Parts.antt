@@ -1,12 +1,10 @@
 -- The parts of a long race, from its start to its end.
-use Rattle.std.proofs.Common.{◌≡◌, ◌<◌, ◌≤◌, ◌+◌, ◌-◌, ◌*◌, ◌++◌, ℕ, zero, suc, List, [], ◌∷◌, ap, append-nil, append_assoc, arith, drop, inl, inr, length, length-append, map, min, refl, sym, ◌∙◌, subst, slice_index_or, take}
+use Rattle.std.proofs.Common.{◌≡◌, ◌<◌, ◌≤◌, ◌+◌, ◌-◌, ◌*◌, ◌++◌, ℕ, zero, suc, List, [], ◌∷◌, ap, append-nil, arith, drop, inl, inr, length, length-append, map, min, refl, sym, ◌∙◌, subst, slice_index_or, take}
 use Rattle.std.proofs.lemmas.Bool.{cases_eq}
 use Rattle.std.proofs.lemmas.List.{get_or_append_left, get_or_push, length-drop, length-map, length-take, map-append, take_all}
 use Rattle.std.proofs.Math.Seq.{drop-length, drop-nil, take-append_seam, take-nil}
 use Rattle.std.specs.Prelude.{Option, Some, slice_get}
 use Rattle.af_base.specs.declared.events.Event.{Event}
-use Rattle.af_base.specs.declared.events.Event.TheVariants as event
-use Rattle.af_base.specs.declared.events.Reply.TheVariants as reply
 use Rattle.af_base.specs.Pass.{Machine}
 use Rattle.af_base.specs.Run.{fresh}
 use Rattle.af_layer.specs.Audit.{IsWholeBook, list_at, nobody, number_at}
@@ -15,8 +13,8 @@ use Rattle.af_layer.specs.Log.{BookView, Entry, IsLegal, IsLegalFrom, Pair, of_s
 use Rattle.af_layer.specs.Seats.{SeatView}
 use Rattle.af_layer.proofs.JoinedLogs.{legal-append, part-append}
 use Rattle.scmgc.specs.Race.Scripts.{script_of}
-use Rattle.scmgc.specs.Race.Parts.{AreFresh, AreLeft, AreNext, Continues, IsOfEnd, IsOfPart, IsOfStart, IsPart, LogHas, SeatsHave, taken}
-use Rattle.scmgc.specs.Race.{ChildrenExitInPart, EndsInPass, EndsPart, IsInParts, NextPart, NoPart, OnePart, RacedBy, RacedInParts, Start, TurnedInParts, all_exits_of, exits_in, scripts_of, share_of, spawned, with_log, worker_steps}
+use Rattle.scmgc.specs.Race.Parts.{AreFresh, AreLeft, AreNext, AreParts, ChildrenExitInPart, Continues, EndsPart, IsOfEnd, IsOfPart, IsOfStart, IsPart, LogHas, NextPart, RacedInParts, SeatsHave, Start, share_of, taken, with_log}
+use Rattle.scmgc.specs.Race.{EndsInPass, all_exits_of, exits_in, scripts_of, spawned, worker_steps}
 use Rattle.scmgc.proofs.race.SeatEntries.{counted}
 use Rattle.scmgc.proofs.race.RaceEnds.{all-steps}
 use Rattle.scmgc.proofs.race.RaceCloses.{all_new, exits-by-log, part-at}
@@ -44,6 +42,10 @@ two-more n = omega arith
 pub log-has : (n : ℕ) (P : ℕ → List Pair → Type 0) (b : BookView) (seats : List SeatView) → SeatsHave n P seats → IsWholeBook b seats → LogHas n P b.log
 log-has n P b seats had whole i lt =
     subst (P i) (part-at b seats whole i (omega (arith, lt, had.count)) ∙ ap (λ k. of_seat k b.log) (had.numbers i lt)) (had.lists i lt)
+
+-- So a log has them of the seat of a number.
+log-at : (n : ℕ) (P : ℕ → List Pair → Type 0) (log : List Entry) → LogHas n P log → (k : ℕ) → 1 ≤ k → k ≤ n → P (k - 1) (of_seat k log)
+log-at n P log has k low high = let next : k - 1 + 1 ≡ k = omega (arith, low) in subst (λ m. P (k - 1) (of_seat m log)) next (has (k - 1) (omega (arith, low, high)))
 
 -- So the children of a part exited by its log.
 pub part-exits : (n : ℕ) (P : ℕ → List Pair → Type 0) (b : BookView) (seats : List SeatView) → SeatsHave (n + 2) P seats → IsWholeBook b seats → EndsPart (all_exits_of (take (n + 1) seats)) [] (list_at seats (n + 1)) → ChildrenExitInPart n b.log
@@ -181,15 +183,15 @@ left-less workers steps seed done n old parts new left next = record {
       next.left i (omega (arith, lt, left.count)) ∙ ap (drop n) (left.each i lt) ∙ sym (drop-add done n (script_of (i + 1) workers steps seed));
 }
 
--- A list continued by one that ends in a pass ends in a pass.
-ends-after : (old more all part : List Pair) → all ≡ (old ++ more) ++ part → EndsInPass [] part → EndsInPass old all
-ends-after old more all part is ended =
-    let last : List Pair = (event.Pass, reply.Done ended.1 ended.2) ∷ [] in (
-      more ++ ended.0,
-      ended.1,
-      ended.2,
-      is ∙ ap (λ l. (old ++ more) ++ l) ended.3 ∙ sym (append_assoc (old ++ more) ended.0 last) ∙ ap (λ l. l ++ last) (append_assoc old more ended.0),
-    )
+-- In a part each worker did its next steps.
+part-script : (workers steps seed budget done n : ℕ) (log : List Entry) (sources parts new : List (List Event)) → AreLeft workers steps seed done sources → AreNext n sources parts new → LogHas (workers + 2) (IsOfPart parts n budget) log → (k : ℕ) → 1 ≤ k → k ≤ workers → events_of (of_seat k log) ≡ take n (drop done (script_of k workers steps seed))
+part-script workers steps seed budget done n log sources parts new left next has k low high =
+    let i = k - 1 in
+    let place : i + 1 ≡ k = omega (arith, low) in
+    let lt : i < workers = omega (arith, low, high) in
+    (log-at (workers + 2) (IsOfPart parts n budget) log has k low (omega (arith, high))).0 (omega (arith, lt, next.made_count, left.count))
+    ∙ next.made i (omega (arith, lt, left.count))
+    ∙ ap (take n) (left.each i lt ∙ ap (λ m. drop done (script_of m workers steps seed)) place)
 
 -- The book of a part: its log is legal from the machine where the last part ended, to that where
 -- this one does.
@@ -200,21 +202,9 @@ module _ (workers steps seed budget checkpoint : ℕ) (b book : BookView) (is : 
     here = refl;
     log = b.log;
     legal = subst (λ m. IsLegalFrom m b.seats b.machine b.log) begins legal;
-    scripts = λ k low high. ap events_of (none k low (omega (arith, high)));
-    turns = subst (TurnedInParts budget 0) (sym (none (workers + 1) (omega arith) (omega arith))) NoPart;
-    main_thread = ([], main ∙ sym (append-nil (spawned workers)));
-    parts = Start b.log main;
-  }) where
-    none : (k : ℕ) → 1 ≤ k → k ≤ workers + 1 → of_seat k b.log ≡ []
-    none k low high =
-        let i = k - 1 in
-        let next : i + 1 ≡ k = omega (arith, low) in
-        ap (λ n. of_seat n b.log) (sym next) ∙ (has i (omega (arith, low, high))).0 (omega (arith, low, high))
-
-    main : of_seat (workers + 2) b.log ≡ spawned workers
-    main =
-        let next : workers + 1 + 1 ≡ workers + 2 = omega arith in
-        ap (λ n. of_seat n b.log) (sym next) ∙ (has (workers + 1) (omega arith)).1 refl
+    scripts = λ k low high. ap events_of ((log-at (workers + 2) (IsOfStart workers) b.log has k low (omega (arith, high))).0 (omega (arith, low, high)));
+    parts = Start b.log has;
+  })
 
   -- The parts that were done before.
   module _ (old : BookView) (done : ℕ) (went : Continues workers steps seed budget checkpoint done old) (seats : b.seats ≡ old.seats) (begins : b.start ≡ old.machine) where
@@ -246,33 +236,17 @@ module _ (workers steps seed budget checkpoint : ℕ) (b book : BookView) (is : 
       log = whole;
       legal = whole-legal;
       scripts = did;
-      turns = subst (TurnedInParts budget (done + n)) (sym (whole-part (workers + 1))) (OnePart done n (of_seat (workers + 1) went.log) (of_seat (workers + 1) b.log) went.turns turned);
-      main_thread = (
-        went.main_thread.0 ++ of_seat (workers + 2) b.log,
-        whole-part (workers + 2) ∙ ap (λ l. l ++ of_seat (workers + 2) b.log) went.main_thread.1 ∙ append_assoc (spawned workers) went.main_thread.0 (of_seat (workers + 2) b.log),
-      );
-      parts = subst (IsInParts workers steps checkpoint (done + n)) whole-is (NextPart done n went.log b.log went.parts share each exits);
+      parts = subst (AreParts workers steps budget checkpoint (done + n)) whole-is (NextPart done n went.log b.log went.parts share each turned exits);
     }) where
-      count : length parts ≡ workers
-      count = next.made_count ∙ left.count
-
-      part-at-place : (i : ℕ) → i < workers → slice_index_or parts i [] ≡ take n (drop done (script_of (i + 1) workers steps seed))
-      part-at-place i lt = next.made i (omega (arith, lt, left.count)) ∙ ap (take n) (left.each i lt)
-
       turned : Turned budget [] n (of_seat (workers + 1) b.log)
-      turned = (has workers (omega arith)).1 (sym count)
+      turned = (has workers (omega arith)).1 (sym (next.made_count ∙ left.count))
 
       did : (k : ℕ) → 1 ≤ k → k ≤ workers → events_of (of_seat k whole) ≡ take (done + n) (script_of k workers steps seed)
       did k low high =
-          let i = k - 1 in
-          let next_place : i + 1 ≡ k = omega (arith, low) in
-          let here : events_of (of_seat k b.log) ≡ take n (drop done (script_of k workers steps seed)) =
-          subst (λ m. events_of (of_seat m b.log) ≡ take n (drop done (script_of m workers steps seed))) next_place
-          ((has i (omega (arith, low, high))).0 (omega (arith, low, high, count)) ∙ part-at-place i (omega (arith, low, high))) in
           ap events_of (whole-part k)
           ∙ map-append (λ p. p.0) (of_seat k went.log) (of_seat k b.log)
           ∙ ap (λ l. l ++ events_of (of_seat k b.log)) (went.scripts k low high)
-          ∙ ap (λ l. take done (script_of k workers steps seed) ++ l) here
+          ∙ ap (λ l. take done (script_of k workers steps seed) ++ l) (part-script workers steps seed budget done n b.log sources parts new left next has k low high)
           ∙ sym (take-add done n (script_of k workers steps seed))
 
     -- The last part, when all steps were done: the race has ended well.
@@ -280,49 +254,28 @@ module _ (workers steps seed budget checkpoint : ℕ) (b book : BookView) (is : 
     goes-last all some has = (
       whole,
       subst (λ v. RacedInParts workers steps seed budget checkpoint (with_log v whole)) (sym is) (record {
-        raced = raced;
-        parts = (went.log, b.log, sym whole-is, subst (λ n. IsInParts workers steps checkpoint n went.log) all went.parts, ended);
+        did = record { legal = whole-legal; scripts = did };
+        parts = (went.log, b.log, sym whole-is, subst (λ n. AreParts workers steps budget checkpoint n went.log) all went.parts, has);
       }),
     ) where
-      same : (k : ℕ) → 1 ≤ k → k ≤ workers + 1 → of_seat k whole ≡ of_seat k went.log
-      same k low high =
-          let i = k - 1 in
-          let next_place : i + 1 ≡ k = omega (arith, low) in
-          let none : of_seat k b.log ≡ [] = ap (λ n. of_seat n b.log) (sym next_place) ∙ (has i (omega (arith, low, high))).0 (omega (arith, low, high)) in
-          whole-part k ∙ ap (λ l. of_seat k went.log ++ l) none ∙ append-nil (of_seat k went.log)
+      did : (k : ℕ) → 1 ≤ k → k ≤ workers → events_of (of_seat k whole) ≡ script_of k workers steps seed
+      did k low high =
+          let script = script_of k workers steps seed in
+          let none = (log-at (workers + 2) (IsOfEnd workers) b.log has k low (omega (arith, high))).0 (omega (arith, low, high)) in
+          let count = script-count k workers steps seed some in
+          ap events_of (whole-part k ∙ ap (λ l. of_seat k went.log ++ l) none ∙ append-nil (of_seat k went.log)) ∙ went.scripts k low high
+          ∙ ap (λ n. take n script) all ∙ take_all steps script (omega (arith, count))
 
-      ended : EndsInPass [] (of_seat (workers + 2) b.log)
-      ended =
-          let next_place : workers + 1 + 1 ≡ workers + 2 = omega arith in
-          subst (λ n. EndsInPass [] (of_seat n b.log)) next_place ((has (workers + 1) (omega arith)).1 refl)
-
-      raced : RacedBy (TurnedInParts budget) workers steps seed (with_log b whole)
-      raced = record {
-        legal = whole-legal;
-        scripts = λ k low high.
-            ap events_of (same k low (omega (arith, high))) ∙ went.scripts k low high
-            ∙ ap (λ n. take n (script_of k workers steps seed)) all ∙ take_all steps (script_of k workers steps seed) (let count = script-count k workers steps seed some in omega (arith, count));
-        turns = subst (TurnedInParts budget steps) (sym (same (workers + 1) (omega arith) (omega arith))) (subst (λ n. TurnedInParts budget n (of_seat (workers + 1) went.log)) all went.turns);
-        main_thread =
-            ends-after (spawned workers) went.main_thread.0 (of_seat (workers + 2) whole) (of_seat (workers + 2) b.log)
-            (whole-part (workers + 2) ∙ ap (λ l. l ++ of_seat (workers + 2) b.log) went.main_thread.1) ended;
-      }
-
--- In a part each worker did this many steps.
-pub part-steps : (workers steps seed budget done n : ℕ) (b : BookView) (sources parts new : List (List Event)) → 5 ≤ steps → done + n ≤ steps → AreLeft workers steps seed done sources → AreNext n sources parts new
-    → LogHas (workers + 2) (IsOfPart parts n budget) b.log → (k : ℕ) → 1 ≤ k → k ≤ workers → length (of_seat k b.log) ≡ n
-part-steps workers steps seed budget done n b sources parts new some fits left next has k low high =
-    let i = k - 1 in
-    let place : i + 1 ≡ k = omega (arith, low) in
-    let script = script_of (i + 1) workers steps seed in
-    let here = next.made i (omega (arith, low, high, left.count)) ∙ ap (take n) (left.each i (omega (arith, low, high))) in
-    let did = (has i (omega (arith, low, high))).0 (omega (arith, low, high, next.made_count, left.count)) ∙ here in
-    let pairs = length-map (of_seat (i + 1) b.log) (λ p. p.0) in
-    let events = ap length did ∙ length-take n (drop done script) in
+-- So it did this many steps.
+part-steps : (workers steps seed budget done n : ℕ) (log : List Entry) (sources parts new : List (List Event)) → 5 ≤ steps → done + n ≤ steps → AreLeft workers steps seed done sources → AreNext n sources parts new
+    → LogHas (workers + 2) (IsOfPart parts n budget) log → (k : ℕ) → 1 ≤ k → k ≤ workers → length (of_seat k log) ≡ n
+part-steps workers steps seed budget done n log sources parts new some fits left next has k low high =
+    let script = script_of k workers steps seed in
+    let did = part-script workers steps seed budget done n log sources parts new left next has k low high in
     let rest = length-drop done script in
-    let all = script-count (i + 1) workers steps seed some in
+    let all = script-count k workers steps seed some in
     let few : min n (length (drop done script)) ≡ n = omega (arith, rest, all, fits) in
-    ap (λ m. length (of_seat m b.log)) (sym place) ∙ sym pairs ∙ events ∙ few
+    sym (length-map (of_seat k log) (λ p. p.0)) ∙ ap length did ∙ length-take n (drop done script) ∙ few
 
 -- One more part of the race: less is left, and each worker did this many steps.
 pub next-part : (workers steps seed budget checkpoint done n : ℕ) (old b book : BookView) (sources parts new : List (List Event)) (counted_steps : ℕ) → 5 ≤ steps → done + n ≤ steps → n ≡ share_of workers checkpoint (steps - done) → Continues workers steps seed budget checkpoint done old → AreLeft workers steps seed done sources → AreNext n sources parts new
@@ -331,7 +284,7 @@ pub next-part : (workers steps seed budget checkpoint done n : ℕ) (old b book 
 next-part workers steps seed budget checkpoint done n old b book sources parts new counted_steps some fits share went left next part exits is counts =
     let few = next.made_count ∙ left.count in
     let lists : LogHas (workers + 2) (IsOfPart parts n budget) b.log = subst (λ m. LogHas (m + 2) (IsOfPart parts n budget) b.log) few part.lists in
-    let each = part-steps workers steps seed budget done n b sources parts new some fits left next lists in (
+    let each = part-steps workers steps seed budget done n b.log sources parts new some fits left next lists in (
       goes-next workers steps seed budget checkpoint b book is part.legal old done went part.origin.0 (part.origin.1 ∙ went.here) n sources parts new left next lists share each
           (subst (λ m. ChildrenExitInPart m b.log) few exits),
       left-less workers steps seed done n sources parts new left next,
@@ -344,5 +297,5 @@ pub long-ended : (workers steps seed budget checkpoint done : ℕ) (old b book :
     → (log : List Entry) × RacedInParts workers steps seed budget checkpoint (with_log book log) × (counted_steps ≡ worker_steps workers log)
 long-ended workers steps seed budget checkpoint done old b book counted_steps some all went part is counts =
     let ended = goes-last workers steps seed budget checkpoint b book is part.legal old done went part.origin.0 (part.origin.1 ∙ went.here) all some part.lists in
-    let each = all-steps (TurnedInParts budget) workers steps seed (with_log book ended.0) some ended.1.raced in
+    let each = all-steps workers steps seed (with_log book ended.0) some ended.1.did in
     (ended.0, ended.1, counts ∙ ap (λ n. workers * n) all ∙ sym each)

@@ -102,7 +102,7 @@ module _ (workers steps seed budget : ℕ) (b : BookView) (opened driven : List 
 
   -- So the race is one that ended well.
   pub raced : EndsInPass (spawned workers) last.list → IsLegal b.seats b.machine b.log → Raced workers steps seed budget b
-  raced ended legal = record { legal = legal; scripts = scripts; turns = turns; main_thread = subst (EndsInPass (spawned workers)) main_part ended }
+  raced ended legal = record { did = record { legal = legal; scripts = scripts }; turns = turns; main_thread = subst (EndsInPass (spawned workers)) main_part ended }
 
   -- The main thread let all of these children exit.
   pub children-exit : Finishes (all_exits_of driven) (spawned workers) last.list → ChildrenExit workers b.log

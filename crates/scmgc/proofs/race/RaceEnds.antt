@@ -5,7 +5,7 @@ use Rattle.af_layer.specs.Audit.{IsWholeBook, nobody}
 use Rattle.af_layer.specs.Drive.{Driven, Made}
 use Rattle.af_layer.specs.Log.{BookView, IsLegal, Pair, of_seat}
 use Rattle.af_layer.specs.Seats.{SeatView}
-use Rattle.scmgc.specs.Race.{ChildrenExit, Finishes, EndsInPass, Raced, RacedBy, all_exits_of, spawned, worker_steps, works_of_race}
+use Rattle.scmgc.specs.Race.{ChildrenExit, DidScripts, Finishes, EndsInPass, Raced, all_exits_of, spawned, worker_steps, works_of_race}
 use Rattle.scmgc.proofs.race.SeatEntries.{counted}
 use Rattle.scmgc.proofs.race.Exits.{in-pass}
 use Rattle.scmgc.proofs.race.RaceCloses.{children-exit, raced}
@@ -61,8 +61,8 @@ module _ (workers steps seed budget : ℕ) (b : BookView) (all opened driven han
   pub race-exits : ChildrenExit workers b.log
   race-exits = children-exit workers steps seed budget b opened driven last opened-count fresh drove last-number all-whole last-list
 
--- The workers of a race that ended well have all their steps in its log.
-pub all-steps : (Turns : ℕ → List Pair → Type 0) (workers steps seed : ℕ) (b : BookView) → 5 ≤ steps → RacedBy Turns workers steps seed b → worker_steps workers b.log ≡ workers * steps
-all-steps Turns workers steps seed b some race =
-    counted workers steps b.log (λ i d lt. (race.legal.of_seats i d lt).0) (λ k low high.
-    sym (length-map (of_seat k b.log) (λ p. p.0)) ∙ ap length (race.scripts k low high) ∙ script-count k workers steps seed some)
+-- Workers that did their scripts have all their steps in the log.
+pub all-steps : (workers steps seed : ℕ) (b : BookView) → 5 ≤ steps → DidScripts workers steps seed b → worker_steps workers b.log ≡ workers * steps
+all-steps workers steps seed b some did =
+    counted workers steps b.log (λ i d lt. (did.legal.of_seats i d lt).0) (λ k low high.
+    sym (length-map (of_seat k b.log) (λ p. p.0)) ∙ ap length (did.scripts k low high) ∙ script-count k workers steps seed some)

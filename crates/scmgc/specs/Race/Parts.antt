@@ -1,13 +1,14 @@
 -- A race at its checkpoints, and what is done from one to the next.
-use Rattle.std.specs.Prelude.{◌≡◌, ◌<◌, ◌≤◌, ◌+◌, ◌++◌, ℕ, List, [], drop, length, slice_index_or, take}
+use Rattle.std.specs.Prelude.{◌≡◌, ◌<◌, ◌≤◌, ◌+◌, ◌-◌, ◌/◌, ◌++◌, ℕ, List, [], drop, length, max, min, slice_index_or, take}
 use Rattle.af_base.specs.declared.events.Event.{Event}
 use Rattle.af_base.specs.Pass.{Machine}
+use Rattle.af_base.specs.Run.{fresh}
 use Rattle.af_layer.specs.Audit.{list_at, number_at}
-use Rattle.af_layer.specs.Drive.{Turned, events_of}
+use Rattle.af_layer.specs.Drive.{Turned, WentOn, events_of}
 use Rattle.af_layer.specs.Log.{BookView, Entry, IsLegal, IsLegalFrom, Pair, of_seat}
 use Rattle.af_layer.specs.Seats.{SeatView}
 use Rattle.scmgc.specs.Race.Scripts.{script_of}
-use Rattle.scmgc.specs.Race.{EndsInPass, IsInParts, TurnedInParts, spawned}
+use Rattle.scmgc.specs.Race.{DidScripts, EndsInPass, EndsInSlice, TellsRace, exits_in, spawned}
 
 -- There are n seats in order, numbered from 1, and the list of each is as P says of its place.
 pub record SeatsHave (n : ℕ) (P : ℕ → List Pair → Type 0) (seats : List SeatView) : Type 0 where
@@ -62,15 +63,56 @@ pub record AreNext (count : ℕ) (old : List (List Event)) (parts new : List (Li
   pub made : (i : ℕ) → i < length old → slice_index_or parts i [] ≡ take count (slice_index_or old i [])
   pub left : (i : ℕ) → i < length old → slice_index_or new i [] ≡ drop count (slice_index_or old i [])
 
--- A race after this many steps of each worker. The logs that were taken, put together, are one
--- legal log, of the start and of parts. In it each worker has done that part of its script, and the
--- collector as many turns; the main thread started the processes first.
+-- A list was extended by these exits, and then ended with a slice that left no pass to continue.
+abbrev pub EndsPart : List Event → List Pair → List Pair → Type 0
+EndsPart exits old new = (exited : List Pair) × WentOn old exits exited × EndsInSlice exited new
+
+-- The children that were forked in a part of a race exited, and then the pass that ran was ended.
+abbrev pub ChildrenExitInPart : ℕ → List Entry → Type 0
+ChildrenExitInPart workers log =
+    EndsPart (exits_in (workers + 1) log) [] (of_seat (workers + 2) log)
+
+-- How many events each worker does up to the next checkpoint, where this many are left: its share,
+-- and at least one.
+abbrev pub share_of : ℕ → ℕ → ℕ → ℕ
+share_of workers checkpoint left = min (max (checkpoint / workers) 1) left
+
+-- The logs that were taken until each worker had done this many of its events, put together: that
+-- of the start, and then the parts. In each part every worker did its share, the collector began
+-- anew and made as many turns, and then the children exited.
+pub data AreParts (workers steps budget checkpoint : ℕ) : ℕ → List Entry → Type 0 where
+  Start : (log : List Entry) → LogHas (workers + 2) (IsOfStart workers) log
+      → AreParts workers steps budget checkpoint 0 log
+  NextPart : (done n : ℕ) → (before part : List Entry)
+      → AreParts workers steps budget checkpoint done before
+      → n ≡ share_of workers checkpoint (steps - done)
+      → ((k : ℕ) → 1 ≤ k → k ≤ workers → length (of_seat k part) ≡ n)
+      → Turned budget [] n (of_seat (workers + 1) part) → ChildrenExitInPart workers part
+      → AreParts workers steps budget checkpoint (done + n) (before ++ part)
+
+-- The log of a race with checkpoints that ended well, which is all logs put together: each worker
+-- did its script, in parts, and behind these is the log of the end.
+pub record RacedInParts (workers steps seed budget checkpoint : ℕ) (b : BookView) : Type 0 where
+  pub did : DidScripts workers steps seed b
+  pub parts : (before last : List Entry) × (b.log ≡ before ++ last)
+      × AreParts workers steps budget checkpoint steps before
+      × LogHas (workers + 2) (IsOfEnd workers) last
+
+-- The text tells a race with checkpoints that ended well.
+abbrev pub LongRaceText : ℕ → ℕ → ℕ → ℕ → ℕ → List ℕ → Type 0
+LongRaceText workers steps seed budget checkpoint =
+    TellsRace (RacedInParts workers steps seed budget checkpoint) workers steps
+
+-- A book with this log since the beginning.
+abbrev pub with_log : BookView → List Entry → BookView
+with_log b log = record b { start = fresh; log = log }
+
+-- A race after this many steps of each worker: in the logs that were taken, put together, each
+-- worker has done that part of its script.
 pub record Continues (workers steps seed budget checkpoint done : ℕ) (b : BookView) : Type 0 where
   pub here : b.start ≡ b.machine
   pub log : List Entry
   pub legal : IsLegal b.seats b.machine log
   pub scripts : (k : ℕ) → 1 ≤ k → k ≤ workers
       → events_of (of_seat k log) ≡ take done (script_of k workers steps seed)
-  pub turns : TurnedInParts budget done (of_seat (workers + 1) log)
-  pub main_thread : (more : List Pair) × (of_seat (workers + 2) log ≡ spawned workers ++ more)
-  pub parts : IsInParts workers steps checkpoint done log
+  pub parts : AreParts workers steps budget checkpoint done log

@@ -1,8 +1,9 @@
 //! A race of any length: its log is taken at checkpoints.
 ghost use Rattle.std.specs.Prelude.{◌≡◌, ◌≤◌, ◌+◌, ◌-◌, ◌*◌, ℕ, List, IfOk, length};
 ghost use Rattle.af_layer.specs.Log.{Entry};
-ghost use Rattle.scmgc.specs.Race.Parts.{AreFresh, AreLeft, Continues};
-ghost use Rattle.scmgc.specs.Race.{RacedInParts, share_of, with_log, worker_steps};
+ghost use Rattle.scmgc.specs.Race.Parts.{AreFresh, AreLeft, Continues, RacedInParts, share_of};
+ghost use Rattle.scmgc.specs.Race.Parts.{with_log};
+ghost use Rattle.scmgc.specs.Race.{worker_steps};
 ghost use Rattle.scmgc.specs.declared.race.workload.script.TheConstants.{MIN_STEPS};
 ghost use Rattle.scmgc.specs.declared.race.workload.table.TheConstants.{MAX_WORKERS};
 

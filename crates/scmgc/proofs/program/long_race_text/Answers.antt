@@ -1,5 +1,6 @@
 use Rattle.std.proofs.Common.{sym, ◌∙◌}
-use Rattle.scmgc.specs.Race.{race_lines, with_log}
+use Rattle.scmgc.specs.Race.Parts.{with_log}
+use Rattle.scmgc.specs.Race.{race_lines}
 use Rattle.scmgc.proofs.program.long_race_text.Goals as goal
 
 pub returns : goal.returns

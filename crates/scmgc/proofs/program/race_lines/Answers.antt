@@ -1,7 +1,7 @@
 use Rattle.std.proofs.Common.{◌≡◌, ℕ, List, refl, subst, suc, sym, zero}
 use Rattle.std.specs.Prelude.{IfOk, string_bytes}
 use Rattle.std.proofs.lemmas.Result.{IfOk-weaker}
-use Rattle.scmgc.specs.Race.{LongRaceText}
+use Rattle.scmgc.specs.Race.Parts.{LongRaceText}
 use Rattle.scmgc.specs.Program.{TextOf}
 use Rattle.scmgc.proofs.program.race_lines.Goals as goal
 

@@ -1,8 +1,8 @@
 use Rattle.std.proofs.Common.{rules, ◌≡◌, ◌+◌, ap, length, map, subst, sym, vec_len, ◌∙◌}
 use Rattle.std.proofs.lemmas.List.{length-map}
 use Rattle.std.proofs.lemmas.Result.{IfOk-weaker}
-use Rattle.scmgc.specs.Race.Parts.{AreFresh, IsOfPart, IsPart}
-use Rattle.scmgc.specs.Race.{ChildrenExitInPart, worker_steps}
+use Rattle.scmgc.specs.Race.Parts.{AreFresh, ChildrenExitInPart, IsOfPart, IsPart}
+use Rattle.scmgc.specs.Race.{worker_steps}
 use Rattle.scmgc.proofs.race.Parts.{next-part}
 use Rattle.scmgc.proofs.race.long.LongRace.next_part.Goals as goal
 

@@ -1,5 +1,3 @@
-use Rattle.std.proofs.Common.{[]}
-use Rattle.af_layer.specs.Drive.{Turned}
 use Rattle.scmgc.proofs.race.RaceEnds.{all-steps}
 use Rattle.scmgc.proofs.race.whole.Race.run.Goals as goal
 
@@ -12,4 +10,4 @@ returns-clause-exits g c = c.in_ok-seats.ensures.exits c.in_ok-closed.closed.boo
 pub returns-clause-steps : goal.returns-clause-steps
 returns-clause-steps g c =
     let race = c.args.self in
-    all-steps (Turned race.budget []) race.workers race.steps race.seed c.in_ok-closed.closed.book c.requires.steps.0 (returns-clause-raced g c)
+    all-steps race.workers race.steps race.seed c.in_ok-closed.closed.book c.requires.steps.0 (returns-clause-raced g c).did
