@@ -117,7 +117,9 @@ impl Store {
 
     /// Reserves room to install `count` descriptors of the process. No process can see a change,
     /// also on an error. Needs no memory if the table is as long as the limit, or `count` is 0.
-    #[inline(always)]
+    // Few events come here. Inlined, it would cost the others registers.
+    #[cold]
+    #[inline(never)]
     pub fn room_for(&mut self, pid: Pid, count: usize) -> Result<(), AllocError>
         ensures world { self.new.world ≡ self.old.world }
         ensures pass { self.new.pass ≡ self.old.pass }

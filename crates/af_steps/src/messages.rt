@@ -416,7 +416,7 @@ fn make_room(
         → (process_at store.old.world pid).limit ≤ room_at store.new pid) }
     ensures succeeds { (0 < length fds.now.items → source.now.has_room ≡ true) → IsOk result }
 {
-    if source.has_room {
+    if source.has_room || fds.is_empty() {
         return Ok(());
     }
     store.room_for(pid, fds.len())
