@@ -1,9 +1,10 @@
-//! The events: each call does, answers and refuses as the one of `Engine` with its name. Each but an
-//! open leaves the values as they are.
-ghost use Rattle.std.specs.Prelude.{◌≡◌, IfErr, IfOk, OnOk};
+//! The events: each call does, answers and refuses as the one of `Engine` with its name. Each but
+//! an open leaves the values as they are.
+ghost use Rattle.std.specs.Prelude.{◌≡◌, IfErr, IfOk, IsOk, OnOk};
 ghost use Rattle.af_base.specs.Pass.{Begins, GoesOn, PassesWhole};
 ghost use Rattle.af_steps.specs.Outcome.{Does, Refuses, RefusesStart, Starts, finished_reply};
 ghost use Rattle.af_steps.specs.Outcome.{got_reply, progress_reply};
+ghost use Rattle.af_steps.specs.Rooms.{CannotFail};
 
 use crate::owned::Owned;
 use af_base::errno::Errno;
@@ -30,6 +31,7 @@ impl<T> Owned<T> {
             Does self.old.machine pid (Step.Dup from) (Reply.Fd fd) self.new.machine) }
         ensures refused { IfErr result (λ e.
             Refuses self.old.machine pid (Step.Dup from) e self.new.machine) }
+        ensures succeeds { CannotFail self.old.machine.world pid (Step.Dup from) → IsOk result }
         ensures values { self.new.values ≡ self.old.values }
     {
         self.engine.dup(pid, from)
@@ -41,6 +43,8 @@ impl<T> Owned<T> {
             Does self.old.machine pid (Step.Dup2 from to) (Reply.Fd fd) self.new.machine) }
         ensures refused { IfErr result (λ e.
             Refuses self.old.machine pid (Step.Dup2 from to) e self.new.machine) }
+        ensures succeeds { CannotFail self.old.machine.world pid (Step.Dup2 from to)
+            → IsOk result }
         ensures values { self.new.values ≡ self.old.values }
     {
         self.engine.dup2(pid, from, to)
@@ -150,6 +154,7 @@ impl<T> Owned<T> {
             Does self.old.machine pid (Step.Accept on) (Reply.Fd fd) self.new.machine) }
         ensures refused { IfErr result (λ e.
             Refuses self.old.machine pid (Step.Accept on) e self.new.machine) }
+        ensures succeeds { CannotFail self.old.machine.world pid (Step.Accept on) → IsOk result }
         ensures values { self.new.values ≡ self.old.values }
     {
         self.engine.accept(pid, on)
@@ -196,6 +201,8 @@ impl<T> Owned<T> {
             (Step.Recv on max_bytes max_fds) (got_reply got) self.new.machine) }
         ensures refused { IfErr result (λ e.
             Refuses self.old.machine pid (Step.Recv on max_bytes max_fds) e self.new.machine) }
+        ensures succeeds { CannotFail self.old.machine.world pid (Step.Recv on max_bytes max_fds)
+            → IsOk result }
         ensures values { self.new.values ≡ self.old.values }
     {
         self.engine.recv(pid, on, max_bytes, max_fds)
