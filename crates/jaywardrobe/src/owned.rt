@@ -10,6 +10,7 @@ ghost use Rattle.std.specs.Borrow.{sem};
 ghost use Rattle.std.specs.Option.{OnSome, option_and_then, option_copied_mut};
 ghost use Rattle.std.specs.FinMap as map;
 ghost use Rattle.af_base.specs.Counts.{count_in};
+ghost use Rattle.af_base.specs.Pass.{IsInTime};
 ghost use Rattle.af_base.specs.Places.{table_at};
 ghost use Rattle.af_base.specs.Run.{fresh};
 ghost use Rattle.af_base.specs.Told.{AreSocketsOnce, TellsChanged};
@@ -113,10 +114,11 @@ impl<T> Owned<T> {
         &self.engine
     }
 
-    /// Does nothing at run time. Shows that the world is sound, that each live plain file carries a
-    /// value, and that no live socket does.
+    /// Does nothing at run time. Shows that the world is sound, that a running pass is in time, that
+    /// each live plain file carries a value, and that no live socket does.
     pub fn lemma_is_sound(&self)
         ensures sound { IsSound self.now.machine.world }
+        ensures in_time { IsInTime self.now.machine.pass }
         ensures carried { AreCarried self.now.machine.world self.now.values }
     {
         self.engine.lemma_is_sound();
