@@ -17,8 +17,8 @@ pub data Pass : Type 0 where
   Idle : Pass
   Running : (begun : World) → (spent : ℕ) → Pass
 
--- A pass that runs has spent at most three units for each file of its begin (this project's profile:
--- what a budget counts).
+-- A pass that runs has spent at most three units for each file of its begin (this project's
+-- profile: what a budget counts).
 abbrev pub IsInTime : Pass → Type 0
 IsInTime Idle = Unit {0}
 IsInTime (Running begun spent) = spent ≤ 3 * map.len begun.files

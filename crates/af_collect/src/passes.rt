@@ -66,8 +66,8 @@ impl Store {
             (slice_reply pass result) self.new.world self.new.pass }
         ensures sound { IsSound self.new.world }
         ensures since { self.new.since ≡ self.old.since }
-        ensures marks { is_marking self.new.progress.stage ≡ true → MarksByLooks self.old.world budget
-            self.old.marks self.new.marks }
+        ensures marks { is_marking self.new.progress.stage ≡ true
+            → MarksByLooks self.old.world budget self.old.marks self.new.marks }
         ensures looked { self.new.progress.looked ≤ self.old.progress.looked + budget }
         ensures rises { self.old.progress.looked ≤ self.new.progress.looked }
         ensures none_due { IfSome result (λ _. (f : ℕ) → is_unmarked self.new.marks f ≡ false) }
