@@ -16,8 +16,8 @@ use Rattle.af_base.specs.World.{World}
 abbrev pub HasOpenFrom : World → ℕ → ℕ → Type 0
 HasOpenFrom w p n = (k : ℕ) × (n ≤ k) × IsTrue (is_some (table_at w p k))
 
--- Process p has room for all that the step adds: in its table, and of a received packet at most four
--- numbers, which lie in the answer. Of other steps nothing is said.
+-- Process p has room for all that the step adds: in its table, and of a received packet at most
+-- four numbers, which lie in the answer. Of other steps nothing is said.
 abbrev pub HasRoom : World → ℕ → Step → Type 0
 HasRoom w p (step.Dup n) = HasOpenFrom w p (free_at w p 0)
 HasRoom w p (step.Dup2 n m) = HasOpenFrom w p m

@@ -114,8 +114,8 @@ impl<T> Owned<T> {
         &self.engine
     }
 
-    /// Does nothing at run time. Shows that the world is sound, that a running pass is in time, that
-    /// each live plain file carries a value, and that no live socket does.
+    /// Does nothing at run time. Shows that the world is sound, that a running pass is in time,
+    /// that each live plain file carries a value, and that no live socket does.
     pub fn lemma_is_sound(&self)
         ensures sound { IsSound self.now.machine.world }
         ensures in_time { IsInTime self.now.machine.pass }
@@ -227,8 +227,8 @@ impl<T> Owned<T> {
     }
 }
 
-/// Returns one of `files` that carries a value, and its position: the first from `place` on, or else
-/// the first of all.
+/// Returns one of `files` that carries a value, and its position: the first from `place` on, or
+/// else the first of all.
 fn first_from<T>(values: &OrderedSlab<T>, files: &[Ino], place: usize) -> Option<(usize, FileRef)>
     ensures some { IfSome result (λ found. IsTrue (map.contains_key values.now.values found.1)) }
     ensures listed { IfSome result (λ found. 0 < count_in found.1 files.now) }

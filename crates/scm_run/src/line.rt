@@ -140,8 +140,8 @@ fn do_bytes(
 }
 
 /// Does the line numbered `number`, appends its text to the gathered text, and returns how many
-/// events it did. Whether it can be read depends on the version that the lines before it set, and it
-/// may set one.
+/// events it did. Whether it can be read depends on the version that the lines before it set, and
+/// it may set one.
 #[tactic(auto, using(crate::proofs::StepLemmas::line_done, crate::proofs::StepLemmas::line_stops, crate::proofs::StepLemmas::line_starves))]
 pub fn do_line<W: Write>(
     alloc: Global,

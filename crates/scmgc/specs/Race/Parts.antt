@@ -57,11 +57,13 @@ pub record AreLeft (workers steps seed done : ℕ) (sources : List (List Event))
       → slice_index_or sources i [] ≡ drop done (script_of (i + 1) workers steps seed)
 
 -- The next events of each source, this many, are made, and the others are left.
-pub record AreNext (count : ℕ) (old : List (List Event)) (parts new : List (List Event)) : Type 0 where
+pub record AreNext (count : ℕ) (old parts new : List (List Event)) : Type 0 where
   pub made_count : length parts ≡ length old
   pub left_count : length new ≡ length old
-  pub made : (i : ℕ) → i < length old → slice_index_or parts i [] ≡ take count (slice_index_or old i [])
-  pub left : (i : ℕ) → i < length old → slice_index_or new i [] ≡ drop count (slice_index_or old i [])
+  pub made : (i : ℕ) → i < length old
+      → slice_index_or parts i [] ≡ take count (slice_index_or old i [])
+  pub left : (i : ℕ) → i < length old
+      → slice_index_or new i [] ≡ drop count (slice_index_or old i [])
 
 -- A list was extended by these exits, and then ended with a slice that left no pass to continue.
 abbrev pub EndsPart : List Event → List Pair → List Pair → Type 0

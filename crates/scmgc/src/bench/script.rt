@@ -101,8 +101,8 @@ fn measure<R: Clock + Print>(
     print_times(rt, times.as_slice())
 }
 
-/// Does `events`, `rounds` times over, and returns whether none was refused. Stops at the first that
-/// is.
+/// Does `events`, `rounds` times over, and returns whether none was refused. Stops at the first
+/// that is.
 // Kept apart, so that the loop has all registers.
 #[inline(never)]
 fn are_done(engine: &mut Engine, events: &[Event], rounds: usize) -> bool {
