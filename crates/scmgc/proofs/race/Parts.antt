@@ -13,10 +13,9 @@ use Rattle.af_layer.specs.Log.{BookView, Entry, IsLegal, IsLegalFrom, Pair, of_s
 use Rattle.af_layer.specs.Seats.{SeatView}
 use Rattle.af_layer.proofs.JoinedLogs.{legal-append, part-append}
 use Rattle.scmgc.specs.Race.Scripts.{script_of}
-use Rattle.scmgc.specs.Race.Parts.{AreFresh, AreLeft, AreNext, AreParts, ChildrenExitInPart, Continues, EndsPart, IsOfEnd, IsOfPart, IsOfStart, IsPart, LogHas, NextPart, RacedInParts, SeatsHave, Start, share_of, taken, with_log}
+use Rattle.scmgc.specs.Race.Parts.{AreFresh, AreLeft, AreNext, AreParts, ChildrenExitInPart, Continues, IsOfEnd, IsOfPart, IsOfStart, IsPart, LogHas, NextPart, RacedInParts, SeatsHave, Start, share_of, taken, with_log}
 use Rattle.scmgc.specs.Race.{EndsInPass, all_exits_of, exits_in, scripts_of, spawned, worker_steps}
-use Rattle.scmgc.proofs.race.SeatEntries.{counted}
-use Rattle.scmgc.proofs.race.RaceEnds.{all-steps}
+use Rattle.scmgc.proofs.race.SeatEntries.{all-steps, counted}
 use Rattle.scmgc.proofs.race.RaceCloses.{all_new, exits-by-log, part-at}
 use Rattle.scmgc.proofs.race.ScriptLength.{script-count}
 use Rattle.scmgc.proofs.race.Works.{collector-work, script-at, script-work, scripts-count}
@@ -44,16 +43,16 @@ log-has n P b seats had whole i lt =
     subst (P i) (part-at b seats whole i (omega (arith, lt, had.count)) ∙ ap (λ k. of_seat k b.log) (had.numbers i lt)) (had.lists i lt)
 
 -- So a log has them of the seat of a number.
-log-at : (n : ℕ) (P : ℕ → List Pair → Type 0) (log : List Entry) → LogHas n P log → (k : ℕ) → 1 ≤ k → k ≤ n → P (k - 1) (of_seat k log)
+pub log-at : (n : ℕ) (P : ℕ → List Pair → Type 0) (log : List Entry) → LogHas n P log → (k : ℕ) → 1 ≤ k → k ≤ n → P (k - 1) (of_seat k log)
 log-at n P log has k low high = let next : k - 1 + 1 ≡ k = omega (arith, low) in subst (λ m. P (k - 1) (of_seat m log)) next (has (k - 1) (omega (arith, low, high)))
 
--- So the children of a part exited by its log.
-pub part-exits : (n : ℕ) (P : ℕ → List Pair → Type 0) (b : BookView) (seats : List SeatView) → SeatsHave (n + 2) P seats → IsWholeBook b seats → EndsPart (all_exits_of (take (n + 1) seats)) [] (list_at seats (n + 1)) → ChildrenExitInPart n b.log
-part-exits n P b seats had whole ended =
+-- A fact on the children's exits and the main thread's list holds by the log.
+pub exits-logged : (n : ℕ) (E : List Event → List Pair → Type 0) (P : ℕ → List Pair → Type 0) (b : BookView) (seats : List SeatView) → SeatsHave (n + 2) P seats → IsWholeBook b seats → E (all_exits_of (take (n + 1) seats)) (list_at seats (n + 1)) → E (exits_in (n + 1) b.log) (of_seat (n + 2) b.log)
+exits-logged n E P b seats had whole ended =
     let here : LogHas (n + 2) (λ i list. list ≡ list_at seats i) b.log = log-has (n + 2) (λ i list. list ≡ list_at seats i) b seats (record { count = had.count; numbers = had.numbers; lists = λ i lt. refl }) whole in
     let main : list_at seats (n + 1) ≡ of_seat (n + 2) b.log = sym (subst (λ k. of_seat k b.log ≡ list_at seats (n + 1)) (two-more n) (here (n + 1) (omega arith))) in
     let exits = exits-by-log b.log seats (n + 1) (omega (arith, had.count)) (λ i lt. here i (omega (arith, lt))) in
-    subst (EndsPart (exits_in (n + 1) b.log) []) main (subst (λ e. EndsPart e [] (list_at seats (n + 1))) exits ended)
+    subst (E (exits_in (n + 1) b.log)) main (subst (λ e. E e (list_at seats (n + 1))) exits ended)
 
 -- So a part that was audited is one of the race.
 pub is-part : (begins : ℕ → Machine → Type 0) (n : ℕ) (P : ℕ → List Pair → Type 0) (b : BookView) (seats : List SeatView) → SeatsHave n P seats → begins b.seats b.start → IsLegalFrom b.start b.seats b.machine b.log → IsWholeBook b seats → IsPart begins n P b
@@ -148,13 +147,17 @@ module _ (n : ℕ) (all opened : List SeatView) (first : SeatView) (fresh : AreF
             subst (λ (w : Option Work). Made w [] (list_at driven i)) is
             (subst (λ (old : List Pair). Made (slice_get works i) old (list_at driven i)) (apart.0.lists i lt) (drove.lists i (here i lt)))
 
-  -- Then the children exited, and the pass was ended, from the last one.
-  pub seats-exited : (driven after : List SeatView) (last : SeatView) → length driven ≡ length opened → after ≡ driven ++ last ∷ [] → EndsPart (all_exits_of driven) first.list last.list → EndsPart (all_exits_of (take (n + 1) after)) [] (list_at after (n + 1))
-  seats-exited driven after last count joined ended =
+  -- The last one began with an empty list.
+  pub last-began : first.list ≡ []
+  last-began = apart.2
+
+  -- A fact on the exits of the driven seats' children and the last one's list.
+  pub seats-exited : (E : List Event → List Pair → Type 0) (driven after : List SeatView) (last : SeatView) → length driven ≡ length opened → after ≡ driven ++ last ∷ [] → E (all_exits_of driven) last.list → E (all_exits_of (take (n + 1) after)) (list_at after (n + 1))
+  seats-exited E driven after last count joined ended =
       let few : n + 1 ≡ length driven = sym (count ∙ apart.0.count) in
       let front : take (n + 1) after ≡ driven = ap (take (n + 1)) joined ∙ ap (λ k. take k (driven ++ last ∷ [])) few ∙ take-append_seam driven (last ∷ []) in
       let behind : list_at after (n + 1) ≡ last.list = ap (λ l. list_at l (n + 1)) joined ∙ ap (λ s. s.list) (get_or_push driven last nobody (n + 1) (sym few)) in
-      subst (λ seats. EndsPart (all_exits_of seats) [] (list_at after (n + 1))) (sym front) (subst (EndsPart (all_exits_of driven) []) (sym behind) (subst (λ l. EndsPart (all_exits_of driven) l last.list) apart.2 ended))
+      subst (λ seats. E (all_exits_of seats) (list_at after (n + 1))) (sym front) (subst (E (all_exits_of driven)) (sym behind) ended)
 
 -- The first elements of a list, and then more of them.
 take-add : {A : Type 0} → (n m : ℕ) (xs : List A) → take (n + m) xs ≡ take n xs ++ take m (drop n xs)

@@ -1,21 +1,21 @@
 -- From the opening of a layer to its closing: what was done in a race.
-use Rattle.std.proofs.Common.{◌≡◌, ◌<◌, ◌≤◌, ◌+◌, ◌*◌, ◌++◌, ℕ, List, [], ◌∷◌, ap, arith, length, length-append, sym, ◌∙◌, subst, slice_index_or}
-use Rattle.std.proofs.lemmas.List.{get_or_append_left, get_or_push, length-map}
-use Rattle.af_layer.specs.Audit.{IsWholeBook, nobody}
+use Rattle.std.proofs.Common.{◌≡◌, ◌+◌, ◌-◌, ◌++◌, ℕ, List, [], ◌∷◌, ap, arith, length, sym, ◌∙◌, subst}
+use Rattle.af_base.specs.declared.events.Event.{Event}
+use Rattle.af_layer.specs.Audit.{IsWholeBook}
 use Rattle.af_layer.specs.Drive.{Driven, Made}
 use Rattle.af_layer.specs.Log.{BookView, IsLegal, Pair, of_seat}
 use Rattle.af_layer.specs.Seats.{SeatView}
-use Rattle.scmgc.specs.Race.{ChildrenExit, DidScripts, Finishes, EndsInPass, Raced, all_exits_of, spawned, worker_steps, works_of_race}
-use Rattle.scmgc.proofs.race.SeatEntries.{counted}
+use Rattle.scmgc.specs.Race.Parts.{AreFresh, IsOfPart, LogHas, SeatsHave}
+use Rattle.scmgc.specs.Race.Scripts.{script_of}
+use Rattle.scmgc.specs.Race.{ChildrenExit, Finishes, Raced, all_exits_of, exits_in, scripts_of, spawned, works_of_race}
 use Rattle.scmgc.proofs.race.Exits.{in-pass}
-use Rattle.scmgc.proofs.race.RaceCloses.{children-exit, raced}
-use Rattle.scmgc.proofs.race.ScriptLength.{script-count}
+use Rattle.scmgc.proofs.race.Parts.{exits-logged, last-began, log-at, log-has, seats-exited, seats-played}
+use Rattle.scmgc.proofs.race.Works.{script-at, scripts-count}
 
 -- All seats as they were opened; those that were driven, before and after; the last one when it was
 -- opened, after the start and at the end; and all as they were handed in.
 module _ (workers steps seed budget : ℕ) (b : BookView) (all opened driven handed : List SeatView) (first started last : SeatView)
-    (count : length all ≡ workers + 2)
-    (each : (i : ℕ) (other : SeatView) → i < workers + 2 → slice_index_or all i other ≡ record { number = i + 1; list = [] })
+    (fresh : AreFresh (workers + 2) all)
     (split : all ≡ opened ++ first ∷ [])
     (started_number : started.number ≡ first.number)
     (started_list : started.list ≡ first.list ++ spawned workers)
@@ -24,45 +24,39 @@ module _ (workers steps seed budget : ℕ) (b : BookView) (all opened driven han
     (list : Finishes (all_exits_of driven) started.list last.list)
     (joined : handed ≡ driven ++ last ∷ [])
     (whole : IsWholeBook b handed) where
-  -- One seat less was driven than was opened.
-  opened-count : length opened ≡ workers + 1
-  opened-count = let parts = ap length split ∙ length-append opened (first ∷ []) in omega (arith, count, parts)
+  -- The list of a worker has its script, and that of the collector its turns.
+  abbrev HasDone : ℕ → List Pair → Type 0
+  HasDone = IsOfPart (scripts_of workers workers steps seed) steps budget
 
-  -- Each of these was fresh.
-  fresh : (i : ℕ) → i < workers + 1 → slice_index_or opened i nobody ≡ record { number = i + 1; list = [] }
-  fresh i lt =
-      sym (get_or_append_left opened (first ∷ []) nobody i (omega (arith, lt, opened-count))) ∙ ap (λ l. slice_index_or l i nobody) (sym split) ∙ each i nobody (omega (arith, lt))
+  -- So do all seats have theirs.
+  had : SeatsHave (workers + 2) HasDone handed
+  had = seats-played workers all opened first fresh split (scripts_of workers workers steps seed) steps budget (scripts-count workers workers steps seed) driven handed last drove joined (number ∙ started_number)
 
-  -- So was the last.
-  first-fresh : first ≡ record { number = workers + 1 + 1; list = [] }
-  first-fresh = sym (get_or_push opened first nobody (workers + 1) opened-count) ∙ ap (λ l. slice_index_or l (workers + 1) nobody) (sym split) ∙ each (workers + 1) nobody (omega arith)
-
-  -- Its number is the last.
-  last-number : last.number ≡ workers + 2
-  last-number = let at_first = ap (λ (s : SeatView). s.number) first-fresh in omega (arith, number, started_number, at_first)
-
-  -- Its list has the start and the children's exits, and ends in a pass.
-  last-list : Finishes (all_exits_of driven) (spawned workers) last.list
-  last-list = subst (λ (l : List Pair). Finishes (all_exits_of driven) l last.list) (started_list ∙ ap (λ (s : SeatView). s.list ++ spawned workers) first-fresh) list
-
-  -- It ends in a pass.
-  last-pass : EndsInPass (spawned workers) last.list
-  last-pass = in-pass (all_exits_of driven) (spawned workers) last.list last-list
-
-  -- All is audited.
-  all-whole : IsWholeBook b (driven ++ last ∷ [])
-  all-whole = subst (IsWholeBook b) joined whole
-
-  -- So the race is one that ended well.
-  pub race-raced : IsLegal b.seats b.machine b.log → Raced workers steps seed budget b
-  race-raced legal = raced workers steps seed budget b opened driven last opened-count fresh drove last-number all-whole last-pass legal
+  -- So it is by the log.
+  logged : LogHas (workers + 2) HasDone b.log
+  logged = log-has (workers + 2) HasDone b handed had whole
 
   -- Each child that was forked has exited.
   pub race-exits : ChildrenExit workers b.log
-  race-exits = children-exit workers steps seed budget b opened driven last opened-count fresh drove last-number all-whole last-list
+  race-exits =
+      let began = started_list ∙ ap (λ l. l ++ spawned workers) (last-began workers all opened first fresh split) in
+      let Ended : List Event → List Pair → Type 0 = λ exits l. Finishes exits (spawned workers) l in
+      exits-logged workers Ended HasDone b handed had whole
+      (seats-exited workers all opened first fresh split Ended driven handed last drove.count joined (subst (λ l. Finishes (all_exits_of driven) l last.list) began list))
 
--- Workers that did their scripts have all their steps in the log.
-pub all-steps : (workers steps seed : ℕ) (b : BookView) → 5 ≤ steps → DidScripts workers steps seed b → worker_steps workers b.log ≡ workers * steps
-all-steps workers steps seed b some did =
-    counted workers steps b.log (λ i d lt. (did.legal.of_seats i d lt).0) (λ k low high.
-    sym (length-map (of_seat k b.log) (λ p. p.0)) ∙ ap length (did.scripts k low high) ∙ script-count k workers steps seed some)
+  -- So the race is one that ended well.
+  pub race-raced : IsLegal b.seats b.machine b.log → Raced workers steps seed budget b
+  race-raced legal =
+      let count = scripts-count workers workers steps seed in
+      record {
+        did = record {
+          legal = legal;
+          scripts = λ k low high.
+              let next : k - 1 + 1 ≡ k = omega (arith, low) in
+              (log-at (workers + 2) HasDone b.log logged k low (omega (arith, high))).0 (omega (arith, low, high, count))
+              ∙ script-at workers workers steps seed (k - 1) (omega (arith, low, high))
+              ∙ ap (λ m. script_of m workers steps seed) next;
+        };
+        turns = (logged workers (omega arith)).1 (sym count);
+        main_thread = in-pass (exits_in (workers + 1) b.log) (spawned workers) (of_seat (workers + 2) b.log) race-exits;
+      }

@@ -1,12 +1,14 @@
 -- How many entries of a log the first seats have.
-use Rattle.std.proofs.Common.{◌≡◌, ◌≤◌, ◌+◌, ◌*◌, ℕ, zero, suc, Bool, true, false, List, [], ◌∷◌, ap, arith, cond, inl, inr, length, refl, ◌∙◌}
+use Rattle.std.proofs.Common.{◌≡◌, ◌≤◌, ◌+◌, ◌*◌, ℕ, zero, suc, Bool, true, false, List, [], ◌∷◌, ap, arith, cond, inl, inr, length, refl, sym, ◌∙◌}
 use Rattle.std.specs.Prelude.{if◌then◌else◌, nat_eq, nat_le}
 use Rattle.std.specs.List.{All}
 use Rattle.std.proofs.lemmas.Bool.Decides.{eqb_tells, leb_tells}
 use Rattle.std.proofs.lemmas.List.Elements.{All-head, All-tail}
 use Rattle.std.proofs.lemmas.List.Sums.{sum_by-cons}
-use Rattle.af_layer.specs.Log.{Entry, of_seat, pair_of}
-use Rattle.scmgc.specs.Race.{worker_steps}
+use Rattle.std.proofs.lemmas.List.{length-map}
+use Rattle.af_layer.specs.Log.{BookView, Entry, of_seat, pair_of}
+use Rattle.scmgc.specs.Race.{DidScripts, worker_steps}
+use Rattle.scmgc.proofs.race.ScriptLength.{script-count}
 
 -- The entry is of a seat that has a number.
 abbrev IsNumbered : Entry → Type 0
@@ -70,3 +72,9 @@ counted (suc n) steps log numbered each =
     one_seat_more n log ∙ ap (λ x. x + length (of_seat (suc n) log)) before ∙ ap (λ x. n * steps + x) here ∙ sum where
       sum : n * steps + steps ≡ suc n * steps
       sum = omega arith
+
+-- Workers that did their scripts have all their steps in the log.
+pub all-steps : (workers steps seed : ℕ) (b : BookView) → 5 ≤ steps → DidScripts workers steps seed b → worker_steps workers b.log ≡ workers * steps
+all-steps workers steps seed b some did =
+    counted workers steps b.log (λ i d lt. (did.legal.of_seats i d lt).0) (λ k low high.
+    sym (length-map (of_seat k b.log) (λ p. p.0)) ∙ ap length (did.scripts k low high) ∙ script-count k workers steps seed some)

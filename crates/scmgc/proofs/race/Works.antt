@@ -85,15 +85,3 @@ collector-work scripts turns budget =
     let all = length-append (map Script scripts) (Collects turns budget ∷ []) in
     slice_get-get_or (map Script scripts ++ Collects turns budget ∷ []) (length scripts) nothing (omega (arith, all, mapped))
     ∙ ap Some (get_or_push (map Script scripts) (Collects turns budget) nothing (length scripts) mapped)
-
--- The work of each worker is its script.
-pub worker-at : (workers steps seed budget i : ℕ) → i < workers → slice_get (works_of_race workers steps seed budget) i ≡ Some (Script (script_of (i + 1) workers steps seed))
-worker-at workers steps seed budget i lt =
-    let count = scripts-count workers workers steps seed in
-    script-work (scripts_of workers workers steps seed) steps budget i (omega (arith, lt, count)) ∙ ap (λ s. Some (Script s)) (script-at workers workers steps seed i lt)
-
--- The collector's work is behind them.
-pub collector-at : (workers steps seed budget : ℕ) → slice_get (works_of_race workers steps seed budget) workers ≡ Some (Collects steps budget)
-collector-at workers steps seed budget =
-    let scripts = scripts_of workers workers steps seed in
-    ap (slice_get (works_of_race workers steps seed budget)) (sym (scripts-count workers workers steps seed)) ∙ collector-work scripts steps budget

@@ -1,10 +1,9 @@
 //! A race on one layer, whose log is kept whole.
-ghost use Rattle.std.specs.Prelude.{◌≡◌, ◌<◌, ◌≤◌, ◌+◌, ◌*◌, ℕ, [], IfOk, OnOk, slice_index_or};
-ghost use Rattle.std.specs.Prelude.{vec_len};
+ghost use Rattle.std.specs.Prelude.{◌≡◌, ◌≤◌, ◌+◌, ◌*◌, IfOk, OnOk};
 ghost use Rattle.af_layer.specs.Audit.{IsWholeBook};
 ghost use Rattle.af_layer.specs.Drive.{Driven, Made};
 ghost use Rattle.af_layer.specs.Log.{BookView, IsLegal};
-ghost use Rattle.af_layer.specs.Seats.{SeatView};
+ghost use Rattle.scmgc.specs.Race.Parts.{AreFresh};
 ghost use Rattle.scmgc.specs.Race.{ChildrenExit, Finishes, Raced, all_exits_of, worker_steps};
 ghost use Rattle.scmgc.specs.Race.{works_of_race};
 ghost use Rattle.scmgc.specs.declared.race.workload.script.TheConstants.{MIN_STEPS, MAX_STEPS};
@@ -87,9 +86,7 @@ impl Race {
     ) -> Result<Vec<Seat>, RaceFault>
         requires workers { (1 ≤ self.workers) × (self.workers ≤ MAX_WORKERS) }
         requires steps { (MIN_STEPS ≤ self.steps) × (self.steps ≤ MAX_STEPS) }
-        requires count { vec_len seats ≡ self.workers + 2 }
-        requires fresh { (i : ℕ) (other : SeatView) → i < self.workers + 2
-            → slice_index_or seats.items i other ≡ record { number = i + 1; list = [] } }
+        requires fresh { AreFresh (self.workers + 2) seats.items }
         ensures raced { IfOk result (λ after. (b : BookView) → IsLegal b.seats b.machine b.log
             → IsWholeBook b after.items → Raced self.workers self.steps self.seed self.budget b) }
         ensures exits { IfOk result (λ after. (b : BookView)

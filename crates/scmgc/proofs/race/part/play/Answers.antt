@@ -4,8 +4,9 @@ use Rattle.std.proofs.Common.{Global}
 use Rattle.std.proofs.lemmas.List.{length-map}
 use Rattle.af_base.specs.declared.events.Event.{Event}
 use Rattle.af_layer.specs.Drive.{Driven, Made, WentOn}
+use Rattle.scmgc.specs.Race.Parts.{EndsPart}
 use Rattle.scmgc.specs.Race.{all_exits_of}
-use Rattle.scmgc.proofs.race.Parts.{seats-exited, seats-played}
+use Rattle.scmgc.proofs.race.Parts.{last-began, seats-exited, seats-played}
 use Rattle.scmgc.proofs.race.Works.{scripts-work}
 use Rattle.scmgc.proofs.race.part.play.Goals as goal
 
@@ -24,9 +25,11 @@ returns-clause-lists g c =
 pub returns-clause-exits : goal.returns-clause-exits
 returns-clause-exits g c =
     let split : c.args.seats.items ≡ c.pop.new.self.items ++ c.unwrap-main.result ∷ [] = c.pop.ensures.items ∙ ap (λ o. c.pop.new.self.items ++ option_to_list o) c.unwrap-main.ensures in
+    let n = vec_len c.args.scripts in
     let driven = c.in_ok-seats.seats.items in
     let lent : c.as_slice.result.now ≡ driven = search rules in
-    let exited = c.in_ok-end_children.ensures.exits in
-    seats-exited (vec_len c.args.scripts) c.args.seats.items c.pop.new.self.items c.unwrap-main.result c.requires.fresh split
-    driven c.push.new.self.items c.end_pass.new.main c.in_ok-seats.ensures.done.count c.in_ok-push.ensures.items
-    (c.end_children.new.main.list, subst (λ seats. WentOn c.unwrap-main.result.list (all_exits_of seats) c.end_children.new.main.list) lent exited, c.in_ok-end_pass.ensures.ended)
+    let exited = subst (λ seats. WentOn c.unwrap-main.result.list (all_exits_of seats) c.end_children.new.main.list) lent c.in_ok-end_children.ensures.exits in
+    let began = last-began n c.args.seats.items c.pop.new.self.items c.unwrap-main.result c.requires.fresh split in
+    seats-exited n c.args.seats.items c.pop.new.self.items c.unwrap-main.result c.requires.fresh split (λ exits list. EndsPart exits [] list) driven c.push.new.self.items c.end_pass.new.main
+    c.in_ok-seats.ensures.done.count c.in_ok-push.ensures.items
+    (subst (λ l. EndsPart (all_exits_of driven) l c.end_pass.new.main.list) began (c.end_children.new.main.list, exited, c.in_ok-end_pass.ensures.ended))
