@@ -1,5 +1,5 @@
 -- From the opening of a layer to its closing: what was done in a race.
-use Rattle.std.proofs.Common.{◌≡◌, ◌+◌, ◌-◌, ◌++◌, ℕ, List, [], ◌∷◌, ap, arith, length, sym, ◌∙◌, subst}
+use Rattle.std.proofs.Common.{◌≡◌, ◌+◌, ◌-◌, ◌++◌, ℕ, List, [], ◌∷◌, ap, arith, sym, ◌∙◌, subst}
 use Rattle.af_base.specs.declared.events.Event.{Event}
 use Rattle.af_layer.specs.Audit.{IsWholeBook}
 use Rattle.af_layer.specs.Drive.{Driven, Made}
