@@ -1,6 +1,6 @@
 /* Want of memory: every allocation fails in turn, most of them while a pass marks. Each call is
  * then refused by JW_ENOMEM and leaves the engine as it was, or is done; asked again it is done; and
- * the calls that never need memory are never refused. Link with -Wl,--wrap=malloc,--wrap=realloc.
+ * the calls that never need memory ask for none. Link with -Wl,--wrap=malloc,--wrap=realloc.
  * The status is 0 where all of that holds. */
 #include <jaywardrobe.h>
 #include <stdio.h>
@@ -70,10 +70,11 @@ static bool same(struct view a, struct view b) {
             failures++, fprintf(stderr, "line %d: %s\n", __LINE__, jw_strerror(answer)); \
     } while (0)
 
-/* A call that never needs memory. */
+/* A call that asks for no memory at all, so that no refusal falls into it. */
 #define FREE(call, wanted) \
     do { \
-        if ((call) != (wanted)) \
+        long before = asked; \
+        if ((call) != (wanted) || asked != before) \
             failures++, fprintf(stderr, "line %d\n", __LINE__); \
     } while (0)
 
@@ -174,7 +175,7 @@ static void life(void) {
 }
 
 /* Two sockets are in each other's queues, one beside a plain file. The exit of their process and
- * the pass that frees them ask for no memory at all. */
+ * the pass that frees them ask for no memory. */
 static void down_without_memory(void) {
     struct jw_pair pair;
     struct jw_finished finished = {0, 0};
@@ -187,12 +188,10 @@ static void down_without_memory(void) {
     DONE(jw_open(&engine, 1), 4);
     DONE(jw_send(&engine, 1, 1, "a", 1, first, 2), 1);
     DONE(jw_send(&engine, 1, 3, "b", 1, second, 1), 1);
-    long before = asked;
     FREE(jw_exit(&engine, 1), 0);
     FREE(jw_pass(&engine, &finished), 0);
     FREE(finished.pass == 1 && finished.reclaimed == 2, true);
     FREE(jw_live(&engine, &live) == 0 && live == 0, true);
-    FREE(asked, before);
 }
 
 /* Runs a trial again and again, each time with another allocation refused, up to a run that is
