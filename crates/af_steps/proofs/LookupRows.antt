@@ -13,8 +13,6 @@ use Rattle.af_base.proofs.PlaceMoves.{there-table}
 use Rattle.af_base.proofs.SoundSteps.{goes-on}
 use Rattle.af_collect.specs.Limits.{IsBelowLimit}
 use Rattle.af_steps.specs.Found.{HasDescriptor, HasProcess, HasSocket}
-use Rattle.af_steps.specs.Rooms.{HasOpenFrom}
-use Rattle.af_table.specs.Rooms.{IsOpenFrom}
 
 -- No socket was found: that refuses each step that asks for one.
 pub no-socket : (w : World) (p n : ℕ) (rest : RefusalRow) (e : Errno) → first_fit (on_process (map.get w.processes p) ++ at_socket w p n) ≡ Some e → first_fit (on_process (map.get w.processes p) ++ (at_socket w p n ++ rest)) ≡ Some e
@@ -56,10 +54,6 @@ module _ {w : World} {p : ℕ} {q : Process} (has : HasProcess w p q) where
   -- A number that is free in its table.
   pub is-free : (n : ℕ) → map.get q.table n ≡ None → table_at w p n ≡ None
   is-free n free = (λ i. looks i n) ∙ free
-
-  -- A number from which on a descriptor is open.
-  pub open-from : (n : ℕ) → HasOpenFrom w p n → IsOpenFrom q.table n
-  open-from n held = (held.0, held.1, subst (λ o. IsTrue (is_some o)) (λ i. looks i held.0) held.2)
 
   -- A number below its limit, as the world has it.
   pub under-limit : (n : ℕ) → n < q.limit → n < (process_at w p).limit

@@ -4,16 +4,15 @@ use Rattle.std.specs.Prelude.{Some, None, nat_lt, slice_get, slice_index}
 use Rattle.std.specs.FinMap as map
 use Rattle.std.specs.List.{All}
 use Rattle.std.proofs.lemmas.Bool.{le-ltb}
-use Rattle.af_base.specs.Refusals.{is_short}
+use Rattle.af_base.specs.Refusals.{is_short, process_at}
 use Rattle.af_base.specs.Steps.{free_at}
 use Rattle.af_base.specs.Table.{free_numbers, lowest_free}
 use Rattle.af_base.specs.World.{Process, World}
 use Rattle.af_base.proofs.Free.{AreFree, first-free, first-low, free-lowest_free}
 use Rattle.af_base.proofs.Lookups.{none_some, some_same}
 use Rattle.af_steps.specs.Found.{HasProcess}
-use Rattle.af_steps.specs.Rooms.{HasOpenFrom}
 use Rattle.af_table.specs.Rooms.{IsOpenFrom}
-use Rattle.af_steps.proofs.LookupRows.{is_process, open-from}
+use Rattle.af_steps.proofs.LookupRows.{is_process}
 
 -- This is the lowest free number of the process.
 pub record IsLowest (q : Process) (n : ℕ) : Type 0 where
@@ -53,8 +52,8 @@ module _ {q : Process} {n : ℕ} (least : IsLowest q n) where
   is-free_at has = ap (λ r. slice_index (free_numbers r) 0) (is_process has) ∙ (begins (free_numbers q) n least.read).1
 
 -- Where a number at or above the lowest free one is open, the table of the process has it.
-pub open-from-lowest : {w : World} {p : ℕ} {q : Process} {n : ℕ} → HasProcess w p q → IsLowest q n → HasOpenFrom w p (free_at w p 0) → IsOpenFrom q.table n
-open-from-lowest {w} {p} has least held = open-from has _ (subst (HasOpenFrom w p) (is-free_at least has) held)
+pub open-from-lowest : {w : World} {p : ℕ} {q : Process} {n : ℕ} → HasProcess w p q → IsLowest q n → IsOpenFrom (process_at w p).table (free_at w p 0) → IsOpenFrom q.table n
+open-from-lowest {w} {p} {q} has least held = subst (IsOpenFrom q.table) (is-free_at least has) (subst (λ (r : Process). IsOpenFrom r.table (free_at w p 0)) (is_process has) held)
 
 -- The lowest free numbers are below the room that was made for them.
 pub numbers-below : (q : Process) (ns : List ℕ) (count room : ℕ) → ns ≡ lowest_free count q → (0 < length ns → q.limit ≤ room) → All (λ n. n < room) ns

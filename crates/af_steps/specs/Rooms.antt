@@ -1,31 +1,28 @@
 -- Where a step needs no memory from the allocator. Definitions that name no manual page are of this
 -- project's profile (docs/PROFILE.md).
-use Rattle.std.specs.Prelude.{◌≡◌, ◌≤◌, ◌<◌, ◌-◌, ℕ, None, IsTrue, is_some, length}
+use Rattle.std.specs.Prelude.{◌≡◌, ◌≤◌, ◌<◌, ◌-◌, ℕ, None, length}
 use Rattle.af_base.specs.declared.events.Event.{Event}
 use Rattle.af_base.specs.declared.events.Event.TheVariants as event
 use Rattle.af_base.specs.declared.events.Reply.{Reply}
 use Rattle.af_base.specs.declared.events.SockType.TheVariants.{Seqpacket}
 use Rattle.af_base.specs.declared.events.Step.{Step}
 use Rattle.af_base.specs.declared.events.Step.TheVariants as step
-use Rattle.af_base.specs.Places.{table_at}
 use Rattle.af_base.specs.Refusals.{process_at, refusal, socket_on}
 use Rattle.af_base.specs.Steps.{answer, free_at, got_at}
 use Rattle.af_base.specs.World.{World}
-
--- Process p has a descriptor open at n or above it: then its table has room at n.
-abbrev pub HasOpenFrom : World → ℕ → ℕ → Type 0
-HasOpenFrom w p n = (k : ℕ) × (n ≤ k) × IsTrue (is_some (table_at w p k))
+use Rattle.af_table.specs.Rooms.{IsOpenFrom}
 
 -- Process p has room for all that the step adds: in its table, and of a received packet at most
 -- four numbers, which lie in the answer. Of other steps nothing is said.
 abbrev pub HasRoom : World → ℕ → Step → Type 0
-HasRoom w p (step.Dup n) = HasOpenFrom w p (free_at w p 0)
-HasRoom w p (step.Dup2 n m) = HasOpenFrom w p m
-HasRoom w p (step.Accept n) = HasOpenFrom w p (free_at w p 0)
+HasRoom w p (step.Dup n) = IsOpenFrom (process_at w p).table (free_at w p 0)
+HasRoom w p (step.Dup2 n m) = IsOpenFrom (process_at w p).table m
+HasRoom w p (step.Accept n) = IsOpenFrom (process_at w p).table (free_at w p 0)
 HasRoom w p (step.Recv n max_bytes max_fds) =
+    let q = process_at w p in
     let got = got_at w p n max_bytes max_fds in
     ((socket_on w p n).kind ≡ Seqpacket) × (length got ≤ 4)
-    × (0 < length got → HasOpenFrom w p ((process_at w p).limit - 1))
+    × (0 < length got → IsOpenFrom q.table (q.limit - 1))
 HasRoom w p s = ⊥
 
 -- The step of process p cannot fail: no test of its row fits, and there is room.

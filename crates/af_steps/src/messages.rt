@@ -13,7 +13,8 @@ ghost use Rattle.af_collect.specs.StoreView.{room_at};
 ghost use Rattle.af_steps.specs.Found.{HasEnd, HasMessage};
 ghost use Rattle.af_steps.specs.Outcome.{Does, Refuses, got_reply, step_error};
 ghost use Rattle.af_steps.specs.MessageRoom.{HasRoomForMessage, message_in, room_row};
-ghost use Rattle.af_steps.specs.Rooms.{CannotFail, HasOpenFrom};
+ghost use Rattle.af_steps.specs.Rooms.{CannotFail};
+ghost use Rattle.af_table.specs.Rooms.{IsOpenFrom};
 
 use crate::engine::Engine;
 use crate::lookups::socket_on;
@@ -374,8 +375,8 @@ fn find_message(
     ensures room { IfOk result (λ found. IfSome found (λ s. s.has_room
         ≡ nat_le (process_at store.now.world pid).limit (room_at store.now pid))) }
     ensures open { IfOk result (λ found. IfSome found (λ s.
-        HasOpenFrom store.now.world pid ((process_at store.now.world pid).limit - 1)
-        → s.has_room ≡ true)) }
+        IsOpenFrom (process_at store.now.world pid).table
+        ((process_at store.now.world pid).limit - 1) → s.has_room ≡ true)) }
     ensures ended { IfOk result (λ found. IfNone found
         (HasEnd store.now.world pid on max_bytes max_fds)) }
     ensures refused { IfErr result (λ e.

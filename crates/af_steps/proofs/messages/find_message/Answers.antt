@@ -7,7 +7,7 @@ use Rattle.af_base.specs.Steps.{got_at}
 use Rattle.af_base.specs.Table.{lowest_free}
 use Rattle.af_base.specs.World.{Process}
 use Rattle.af_steps.proofs.EmptyReceives.{has-end}
-use Rattle.af_steps.proofs.LookupRows.{after-socket, is_process, no-socket, open-from}
+use Rattle.af_steps.proofs.LookupRows.{after-socket, is_process, no-socket}
 use Rattle.af_steps.proofs.Outcomes.{can-fail}
 use Rattle.af_steps.proofs.messages.find_message.Goals as goal
 use Rattle.af_table.specs.Rooms.{IsOpenFrom}
@@ -24,9 +24,7 @@ returns-clause-room c =
 
 pub returns-clause-open : goal.returns-clause-open
 returns-clause-open c = λ held.
-    let process = c.in_ok-process.ensures.found.number.process in
-    let q = c.in_ok-process.process.now.process in
-    c.has_room.ensures.open (subst (λ (x : Process). IsOpenFrom q.table (x.limit - 1)) (is_process process) (open-from process _ held))
+    c.has_room.ensures.open (subst (λ (q : Process). IsOpenFrom q.table (q.limit - 1)) (is_process c.in_ok-process.ensures.found.number.process) held)
 
 pub returns-in_err-process-clause-succeeds : goal.returns-in_err-process-clause-succeeds
 returns-in_err-process-clause-succeeds c =

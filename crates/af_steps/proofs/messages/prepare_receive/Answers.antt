@@ -3,7 +3,7 @@ use Rattle.std.specs.Result.{IsOk}
 use Rattle.std.proofs.lemmas.Bool.{false≢true}
 use Rattle.af_base.specs.Refusals.{process_at}
 use Rattle.af_steps.specs.Found.{HasMessage}
-use Rattle.af_steps.specs.Rooms.{HasOpenFrom}
+use Rattle.af_table.specs.Rooms.{IsOpenFrom}
 use Rattle.af_steps.proofs.WaitingMessages.{can-receive}
 use Rattle.af_steps.proofs.messages.prepare_receive.Goals as goal
 
@@ -18,5 +18,5 @@ returns-in_err-make_room-clause-succeeds c = λ sure.
     let w = c.args.store.now.world in
     let p = c.args.pid in
     let message : HasMessage w p c.args.on c.args.max_bytes c.args.max_fds c.in-Some.source.file c.find_message.new.fds.items = search rules in
-    let open_row : HasOpenFrom w p ((process_at w p).limit - 1) → c.in-Some.source.has_room ≡ true = search rules in
+    let open_row : IsOpenFrom (process_at w p).table ((process_at w p).limit - 1) → c.in-Some.source.has_room ≡ true = search rules in
     absurd (false≢true (subst IsOk c.in_err-make_room.was (c.make_room.ensures.succeeds (λ some. open_row (sure.room.2 (subst (λ (ns : List ℕ). 0 < length ns) message.numbers some))))))

@@ -1,7 +1,8 @@
 use Rattle.std.proofs.Common.{rules, ◌≡◌, ◌<◌, false, true, not, ◌&&◌, ◌∷◌, [], nat_eq, refl, sym, ap, subst, ◌∙◌, arith}
 use Rattle.std.specs.Prelude.{nat_le, nat_lt, if◌then◌else◌}
-use Rattle.af_base.specs.World.{IsLive, World}
+use Rattle.af_base.specs.World.{IsLive, Process, World}
 use Rattle.af_collect.specs.Keeping.{NotBegunGarbage}
+use Rattle.af_table.specs.Rooms.{IsOpenFrom}
 use Rattle.std.proofs.lemmas.Bool.{lt-leb}
 use Rattle.af_base.specs.declared.errno.Errno.TheVariants.{EBADF}
 use Rattle.af_base.specs.declared.events.Reply.TheVariants as reply
@@ -9,7 +10,7 @@ use Rattle.af_base.specs.declared.events.Step.TheVariants as step
 use Rattle.af_base.specs.Changes.{install}
 use Rattle.af_base.specs.Refusals.{first_fit, ino_on, on_place, refusal}
 use Rattle.af_collect.specs.StoreView.{StoreView}
-use Rattle.af_steps.proofs.LookupRows.{after-number, below-limit, held, in-same, ino-is, is-there, open-from, under-limit}
+use Rattle.af_steps.proofs.LookupRows.{after-number, below-limit, held, in-same, ino-is, is-there, is_process, under-limit}
 use Rattle.af_steps.proofs.Outcomes.{does, does-nothing, not-starved}
 use Rattle.af_steps.proofs.engine.Engine.dup2.Goals.{In_ok-process}
 use Rattle.af_steps.proofs.engine.Engine.dup2.Goals as goal
@@ -69,4 +70,4 @@ returns-clause-done c =
 pub returns-in_err-make_room_at-clause-succeeds : goal.returns-in_err-make_room_at-clause-succeeds
 returns-in_err-make_room_at-clause-succeeds c =
     not-starved c.self.view_is c.args.pid (step.Dup2 c.args.from c.args.to) c.from_residual-in_err-make_room_at.result c.in_err-make_room_at.was
-    (λ sure. c.make_room_at.ensures.succeeds (c.has_room_at-has_room.ensures.open (open-from c.in_ok-process.ensures.found.process c.args.to sure.room)))
+    (λ sure. c.make_room_at.ensures.succeeds (c.has_room_at-has_room.ensures.open (subst (λ (q : Process). IsOpenFrom q.table c.args.to) (is_process c.in_ok-process.ensures.found.process) sure.room)))
