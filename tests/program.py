@@ -536,6 +536,13 @@ pass 1 reclaimed 0
 EIDLE
 """
 
+# A million passes over as many files as may be live, none of them in flight. They take a second; with a begin that looks
+# at each file, minutes: then the run is stopped.
+CONSTANT_BEGINS = (
+    "".join(f"spawn 1000 1024\n{1_024 * f'{pid} open{chr(10)}'}" for pid in range(1, 65)) + 1_000_000 * "pass\n"
+)
+BEGINS = "pass 1000000 reclaimed 0\n"
+
 LONG_SCRIPTS = [
     ("full queues", FULL_QUEUES, QUEUES),
     ("a full listener", FULL_LISTENER, LISTENER),
@@ -543,6 +550,7 @@ LONG_SCRIPTS = [
     ("a long chain of streams", LONG_CHAIN, CHAIN),
     ("all processes", ALL_PROCESSES, PROCESSES),
     ("a pass over all files", FULL_PASS, PASS),
+    ("begins over all files", CONSTANT_BEGINS, BEGINS),
 ]
 
 def long_scripts(program: Program) -> Iterator[Check]:
