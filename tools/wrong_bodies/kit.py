@@ -1,0 +1,11 @@
+"""The kit's module for its own tools, which lies beside rt."""
+import os
+import shutil
+import subprocess
+import sys
+
+ROOT = os.path.realpath(f"{__file__}/../../..")
+if subprocess.run([f"{ROOT}/tools/need", "rt"]).returncode:
+    sys.exit(2)
+sys.path.insert(0, os.path.dirname(os.path.realpath(shutil.which("rt"))))
+import rtlib  # noqa: E402, F401
