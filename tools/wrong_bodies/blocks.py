@@ -1,15 +1,16 @@
 """Reads the blocks of a crate's wrong-bodies.edits:
 
-    file: src/mark.rt
+    file: src/counts.rt
 
-    takes_an_old_mark
-      answer: color_in
-      old: if self.epoch != epoch {
-      new: if self.epoch > epoch {
+    holds_again_in_a_table
+      fn: files::Files::hold_again
+      answer: invariant_of-self
+      old: self.rows.add_ref(place, file);
+      new: self.rows.add_ref(&Place::Table, file);
 
-The lines of a block are indented below the name of its mistake. Each text after 'old:' stands once
-in the file that the line 'file:' above it names, and the text of 'new:' takes its place. Blocks are
-in the order of their files, and there of their old texts. Before these, a block may have
+The lines of a block are indented below the name of its mistake. Each text after 'old: ' stands once
+in the file that the line 'file:' above names, and the text of 'new:' takes its place. Blocks are in
+the order of their files, and of their old texts in a file. A block may first have
 
     fn: PATH        the function whose contract must refuse it: the text need then stand once in it
     answer: NAME    the one stored answer of the changed function that no longer fits

@@ -77,6 +77,7 @@ class Edit:
         return text.find(old)
 
     def add(self, file: str, old: str, new: str) -> None:
+        """Notes what it replaces, and the function around it."""
         text = rtlib.text_of(f"{self.folder}/{file}") or ""
         at = self.place(text, file, old)
         self.pairs.append((file, at, old, new))

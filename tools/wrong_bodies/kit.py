@@ -3,8 +3,9 @@ import os
 import shutil
 import subprocess
 import sys
+from pathlib import Path
 
-ROOT = os.path.realpath(f"{__file__}/../../..")
+ROOT = str(Path(__file__).resolve().parents[2])
 if subprocess.run([f"{ROOT}/tools/need", "rt"]).returncode:
     sys.exit(2)
 sys.path.insert(0, os.path.dirname(os.path.realpath(shutil.which("rt"))))
