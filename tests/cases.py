@@ -91,9 +91,11 @@ def read(path: Path) -> List[Case]:
         try:
             if row.startswith(NAME):
                 cases.append(Case(path, number, row[len(NAME) :].decode(), []))
+            elif row and not cases:
+                raise ValueError("no line names a case before it")
             elif row:
                 read_row(row, number, cases[-1].lines)
-        except (IndexError, SyntaxError, ValueError) as error:
+        except (SyntaxError, ValueError) as error:
             raise SystemExit(f"{path}:{number}: cannot be read: {error}") from error
     return cases
 
