@@ -5,7 +5,8 @@ The list is the table of events in docs/SCRIPTS.md. It has a row for each line t
 in order. Compared with it are
 
 - the rows of the definition (crates/af_base/specs), which decides, and those of docs/DEFINITIONS.md;
-- the doc comments of the calls (crates/af_steps/src), the comments of include/jaywardrobe.h, and the table of CALLING.md;
+- the doc comments of the calls (crates/af_steps/src), the comments of include/jaywardrobe.h, and the table of
+  CALLING.md;
 - the forms, keywords and versions of the script language (crates/scm_lines), the help text (crates/scmgc), and the
   manual page (docs/man/scmgc.1);
 - the events that tools/plain_engine.py serves, and those that tools/walks draws, with the errors that these meet.
@@ -133,7 +134,8 @@ def defined() -> Refusals:
 
     def row(name: str) -> List[str]:
         parts = re.findall(r"\b(on_\w+|at_socket|recv_row)\b", bodies[name])
-        return merged(re.findall(r",\s+(E[A-Z]+),?\s*\)", bodies[name]) + [error for part in parts for error in row(part)])
+        own = re.findall(r",\s+(E[A-Z]+),?\s*\)", bodies[name])
+        return merged(own + [error for part in parts for error in row(part)])
 
     frugal = re.findall(r"^needs_no_memory \(?step\.(\w+).* = true$", steps, re.M)
     found = {"spawn": [*row("spawn_row"), "ENOMEM"]}
