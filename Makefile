@@ -2,7 +2,7 @@
 # make try       build out/unproved/scmgc without proofs, in a minute or two, and play SCRIPT=FILE or an example
 # make run       prove and build the program, and play the example script: half an hour on four cores
 # make build     prove and build the program alone: crates/scmgc/out/scmgc
-# make check     before a commit: compare events and the header, prove what has changed and all above it, play the cases
+# make check     before a commit: compare events, header and sizes, prove what has changed and all above it, play the cases
 # make bindings  write the header, its manual page and the bindings for Rust, after a change of a call, error or limit
 # make test      the gate: proofs from nothing, all tests, wrong bodies: half an hour to an hour on four cores
 # make walks     random scripts and edited lines by the proved program, compared with an engine and a reader in Python
@@ -65,6 +65,7 @@ check:
 	@$(need) rt
 	tests/events_agree.py
 	tests/calls_agree.py
+	tests/sizes.py
 	tools/bindings --check
 	rt all check
 	$(MAKE) --no-print-directory build
