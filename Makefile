@@ -4,6 +4,7 @@
 # make build     prove and build the program alone: crates/scmgc/out/scmgc
 # make check     before a commit: compare events, header and sizes, prove what has changed and all above it, play the cases
 # make bindings  write the header, its manual page and the bindings for Rust, after a change of a call, error or limit
+# make lists     write the events of CALLING.md, scmgc.1 and the help of play, after a change of SCRIPTS.md
 # make test      the gate: proofs from nothing, all tests, wrong bodies: half an hour to an hour on four cores
 # make walks     random scripts and edited lines by the proved program, compared with an engine and a reader in Python
 # make kernel-walks  as root: SEEDS (24) random scripts by real sockets of this Linux, compared with the plain engine
@@ -74,6 +75,10 @@ check:
 bindings:
 	@$(need)
 	tools/bindings
+
+lists:
+	@$(need)
+	tools/lists
 
 # Where the time went, crate by crate, stands in out/times.md after it.
 test:
@@ -168,5 +173,5 @@ clean:
 	rm -rf out crates/*/out
 
 .DEFAULT_GOAL := help
-.PHONY: help try build run check bindings test walks kernel-walks stress bench try-lib lib archive embed clients bench-c unixbox \
+.PHONY: help try build run check bindings lists test walks kernel-walks stress bench try-lib lib archive embed clients bench-c unixbox \
 	install install-program install-library uninstall clean

@@ -5,11 +5,10 @@ The list is the table of events in docs/SCRIPTS.md. It has a row for each line t
 in order. Compared with it are
 
 - the rows of the definition (crates/af_base/specs), which decides, and those of docs/DEFINITIONS.md;
-- the doc comments of the calls (crates/af_steps/src), the comments of include/jaywardrobe.h, and the table of
-  CALLING.md;
-- the forms, keywords and versions of the script language (crates/scm_lines), the help text (crates/scmgc), and the
-  manual page (docs/man/scmgc.1);
-- the events that tools/plain_engine.py serves, and those that tools/walks draws, with the errors that these meet.
+- the doc comments of the calls (crates/af_steps/src), and the comments of include/jaywardrobe.h;
+- the forms, keywords and versions of the script language (crates/scm_lines), and the help text (crates/scmgc);
+- the events that tools/plain_engine.py serves, and those that tools/walks draws;
+- the lines that tools/lists writes: the table of CALLING.md, and those of scmgc.1 and of the help of `scmgc play`.
 
 It prints a line for each difference, and then '1 passed, 0 failed' where there is none, and else '0 passed, 1 failed'.
 The status is 0 or 1. Nothing has to be built.
@@ -21,14 +20,14 @@ import sys
 from importlib.machinery import SourceFileLoader
 from importlib.util import module_from_spec, spec_from_loader
 from itertools import groupby
-from typing import Callable, Dict, Iterable, Iterator, List, NamedTuple, Tuple
+from typing import Callable, Dict, Iterable, Iterator, List, Tuple
 
 sys.dont_write_bytecode = True
 ROOT = os.path.dirname(os.path.dirname(os.path.realpath(__file__)))
 sys.path.insert(0, f"{ROOT}/tools")
 import plain_engine  # noqa: E402
+from event_list import LIST, Row, Unreadable, events, table, text_of, verb_of  # noqa: E402
 
-LIST = "docs/SCRIPTS.md"
 # The calls of the engine that do an event of another name.
 TWINS = {"send_owned": "send"}
 # C tests this before all else: there a type is a number, and an invalid one makes no event.
@@ -47,45 +46,9 @@ WORDS = {
     "privilege": "[priv]",
     "two": "2",
 }
-# A refusal in the list, and what it means in its row.
-REFUSAL = r"`(E[A-Z]+)`(?: \([^()]*\))?"
 Refusals = Dict[str, List[str]]
 # The compared facts: each has a name, the call that reads it, and the expected result.
 Comparison = Tuple[str, Callable[[], dict], dict]
-
-
-class Unreadable(Exception):
-    """A source does not have the form in which its events are looked for."""
-
-
-class Row(NamedTuple):
-    """A row of the list."""
-
-    # The words of the line, as 'P dup N'.
-    line: str
-    refusals: List[str]
-    replies: List[str]
-    # Whether scripts of version 1 do not have it.
-    is_later: bool
-
-
-def text_of(path: str) -> str:
-    with open(f"{ROOT}/{path}", encoding="utf-8") as file:
-        return file.read()
-
-
-def table(path: str, head: str) -> List[List[str]]:
-    """The cells of each row of the table that has this head, with or without spaces beside them."""
-    text, line = (re.sub(r" *\| *", "|", it) for it in (text_of(path), f"\n|{head}|\n"))
-    rows = text.partition(line)[2].partition("\n\n")[0].splitlines()[1:]
-    if not rows:
-        raise Unreadable(f"{path}: no table has the head: {head}")
-    return [row[1:-1].split("|") for row in rows]
-
-
-def verb_of(line: str) -> str:
-    """The word of a line that says what happens. A process may come before it."""
-    return line.split()[line.startswith("P ")]
 
 
 def errors_in(text: str) -> List[str]:
@@ -100,21 +63,6 @@ def merged(errors: List[str]) -> List[str]:
 def alike(names: Iterable[str]) -> Dict[str, str]:
     """Names of which only the presence is compared."""
     return {it: "is there" for it in names}
-
-
-# The list.
-
-
-def events() -> Dict[str, Row]:
-    """The rows of the list, by verb."""
-    found: Dict[str, Row] = {}
-    for line, does, refused in table(LIST, "Line | What it does, and its reply | Refused by, in this order"):
-        verb = verb_of(line.strip("`"))
-        if verb in found or not re.fullmatch(rf"{REFUSAL}(?:, {REFUSAL})*", refused):
-            raise Unreadable(f"{LIST}: {verb} has two rows, or no list of refusals: {refused}")
-        replies = re.findall(r"`([^`]+)`", does.partition(" Reply: ")[2])
-        found[verb] = Row(line.strip("`"), re.findall(REFUSAL, refused), replies, does.startswith("*Version 2.*"))
-    return found
 
 
 def first_cells(head: str) -> List[str]:
@@ -180,18 +128,6 @@ def declared() -> Refusals:
     return {call: errors for call, errors in found.items() if errors and call not in NO_EVENTS_OF_C}
 
 
-def documented() -> Refusals:
-    """What CALLING.md has. That ESRCH is the first refusal of a process's call is said once, above its table."""
-    page, found = "crates/jaywardrobe/CALLING.md", {}
-    is_said = "Every call of a process is refused with ESRCH where there is no such process." in text_of(page)
-    for call, _, refused in table(page, "Call | On `Ok` | Refused, in this order"):
-        name, words = re.findall(r"`(\w+)\((.*?)\)", call)[0]
-        same = re.fullmatch(r"as `(\w+)`", refused)
-        first = ["ESRCH"] if is_said and words.startswith("pid") else []
-        found[name] = found[same[1]] if same else first + errors_in(refused)
-    return found
-
-
 # The functions that make an event of a line, and those that try each.
 
 
@@ -229,12 +165,6 @@ def helped() -> Dict[str, str]:
     return alike(re.findall(r"^  (P? ?\S.*?)  ", help_text(), re.M))
 
 
-def in_manual() -> Dict[str, bool]:
-    """The events of the manual page, and whether a process does them."""
-    found = re.findall(r"^\.It (Ar P )?Li (\w+)", text_of("docs/man/scmgc.1"), re.M)
-    return {verb: bool(process) for process, verb in found}
-
-
 def misnamed(lines: Dict[str, str]) -> Dict[str, str]:
     """The verbs of the examples in the help text that begin none of these lines."""
     verbs = map(verb_of, re.findall(r"'([^']+)'", help_text()))
@@ -247,41 +177,30 @@ def served() -> Dict[str, bool]:
     return {name[3:]: "process" in inspect.signature(it).parameters for name, it in calls if name.startswith("do_")}
 
 
-def walks():
-    """tools/walks as a module."""
-    loader = SourceFileLoader("walks", f"{ROOT}/tools/walks")
-    module = module_from_spec(spec_from_loader(loader.name, loader))
-    loader.exec_module(module)
-    return module
-
-
-def drawn(refusals: Refusals) -> Refusals:
-    """What refuses the events that walks draw. The errors of a short walk are a part of an event's, in order: then all
-    of the event's are given, and else those of the walk."""
-    found = {}
-    for verb, kind in walks().KINDS.items():
-        errors, rest = kind.errors.split(), iter(refusals.get(verb, []))
-        is_part = verb in refusals and all(it in rest for it in errors)
-        found[verb] = refusals[verb] if is_part else errors
-    return found
+def module(tool: str):
+    """A tool as a module."""
+    loader = SourceFileLoader(tool, f"{ROOT}/tools/{tool}")
+    made = module_from_spec(spec_from_loader(loader.name, loader))
+    loader.exec_module(made)
+    return made
 
 
 def met() -> Dict[str, str]:
     """The events that the walks of a mix have to meet, by each error of theirs."""
-    return alike(it for mix in walks().MIXES.values() for it in mix.meets)
+    return alike(it for mix in module("walks").MIXES.values() for it in mix.meets)
 
 
 # The comparisons.
 
 
 def comparisons(rows: Dict[str, Row]) -> List[Comparison]:
-    refusals = {verb: row.refusals for verb, row in rows.items()}
+    refusals = {verb: row.errors for verb, row in rows.items()}
     by_rows = {verb: [it for it in errors if it not in ("ESRCH", "ENOMEM")] for verb, errors in refusals.items()}
     by_calls = {**refusals, **{twin: refusals.get(verb) for twin, verb in TWINS.items()}}
     from_c = {verb: FIRST_IN_C.get(verb, []) + errors for verb, errors in refusals.items()}
     others = {verb_of(it): it for it in first_cells("Line | What it does")}
     lines = {**{verb: row.line for verb, row in rows.items()}, **others}
-    of_process = {verb: row.line.startswith("P ") for verb, row in rows.items()}
+    of_process = {verb: row.is_of_process for verb, row in rows.items()}
     named = {verb: f"{'Verb' if of_process.get(verb) else 'Keyword'}::{verb.capitalize()}" for verb in lines}
     later = {verb: row.line for verb, row in rows.items() if row.is_later}
     reports = alike(verb for verb in others if verb != "version")
@@ -290,19 +209,17 @@ def comparisons(rows: Dict[str, Row]) -> List[Comparison]:
         ("crates/af_base/specs", defined, refusals),
         ("docs/DEFINITIONS.md", explained, by_rows),
         ("crates/af_steps/src", called, by_calls),
-        ("crates/jaywardrobe/CALLING.md", documented, by_calls),
         ("include/jaywardrobe.h", declared, from_c),
         ("crates/scm_lines/specs/Forms.antt", forms, lines),
         ("crates/scm_lines/src/keywords.rt", keywords, named),
         ("crates/scm_lines/specs/Versions.antt", later_steps, alike(later)),
         ("crates/scmgc, version 2", helped, alike(later.values())),
         ("crates/scmgc, examples", lambda: misnamed(lines), {}),
-        ("docs/man/scmgc.1, of a process", in_manual, of_process),
         (f"{LIST}, the replies", lambda: alike(first_cells("Reply | What it says")), replies),
         (f"{LIST}, the texts of reports", lambda: alike(first_cells("Line | Text")), reports),
         ("tools/plain_engine.py, reports", lambda: alike(plain_engine.REPORTS), reports),
         ("tools/plain_engine.py, of a process", served, of_process),
-        ("tools/walks", lambda: drawn(refusals), refusals),
+        ("tools/walks", lambda: alike(module("walks").WORDS), alike(rows)),
         ("tools/walks, what mixes meet", met, alike(rows)),
     ]
 
@@ -318,6 +235,14 @@ def different(source: str, told: dict, wanted: dict) -> Iterator[str]:
             yield f"{source}: {name}: {shown(told.get(name))}; by {LIST}: {shown(wanted.get(name))}"
 
 
+def read(source: str, lines: Callable[[], Iterable[str]]) -> Iterator[str]:
+    """Lines about a source, or one that says that it cannot be read."""
+    try:
+        yield from lines()
+    except (Unreadable, LookupError, OSError, ValueError) as error:
+        yield f"{source}: cannot be read: {error!r}"
+
+
 def differences() -> Iterator[str]:
     """A line for each difference, and one for each source that cannot be read."""
     try:
@@ -326,10 +251,8 @@ def differences() -> Iterator[str]:
         yield str(error)
         return
     for source, told, wanted in compared:
-        try:
-            yield from different(source, told(), wanted)
-        except (Unreadable, LookupError, OSError, ValueError) as error:
-            yield f"{source}: cannot be read: {error!r}"
+        yield from read(source, lambda: different(source, told(), wanted))
+    yield from read("tools/lists", module("lists").differences)
 
 
 def main() -> int:
