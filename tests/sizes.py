@@ -3,7 +3,7 @@
 
 Each limit of `BUDGET` is a little above what the project has. Who needs more raises it in the commit that needs it, and
 says there why; who has made something smaller lowers it. Counted are the files that a checkout has, but for the data
-of `APART`. A line is printed for each count above its limit, with the first places, and then 'N passed, M failed'. The
+of `APART`. A line is printed for each count above its limit, with the places, and then 'N passed, M failed'. The
 status is 0 only if M is 0. Nothing has to be built.
 """
 import argparse
@@ -17,7 +17,7 @@ ROOT = os.path.dirname(os.path.dirname(os.path.realpath(__file__)))
 # What is built, what git keeps, and drafts.
 SKIPPED = {".git", "out", "target", "__pycache__", "wip"}
 # Data whose lines and files are no code: wrong bodies, and scripts with their answers.
-APART = re.compile(r"crates/\w+/wrong-bodies/|tests/cases/|tests/comparison/(seen|scripts)/")
+APART = re.compile(r"crates/\w+/wrong-bodies|tests/cases/|tests/comparison/(seen|scripts)/")
 # The columns of a line by the kind of its file. .editorconfig has the same.
 WIDTHS = {"rt": 100, "antt": 100, "rs": 100, "c": 100, "h": 100, "py": 120, "sh": 120}
 # How many lines a function and a file of code may have.
@@ -25,8 +25,8 @@ FUNCTION = 40
 FILE = 800
 # An event that stands for all: it has been there from the first, and its name is no other word.
 EVENT = "dup2"
-# How many places of a count that is too large are shown.
-MOST = 8
+# Of a limit below this all places are shown; of others they would say little.
+SHOWN = 100
 
 
 class Source(NamedTuple):
@@ -43,7 +43,7 @@ class Limit(NamedTuple):
 
     name: str
     most: int
-    # The places that count, of which those of prose have as many words as they say.
+    # A place for each thing that counts.
     places: Callable[[List[Source]], List[str]]
 
 
@@ -155,7 +155,7 @@ BUDGET = (
 
 def main() -> int:
     form = argparse.ArgumentParser(description=__doc__, formatter_class=argparse.RawDescriptionHelpFormatter)
-    form.add_argument("--all", action="store_true", help="print each count beside its limit, and its first places")
+    form.add_argument("--all", action="store_true", help="print each count beside its limit, and its places")
     options = form.parse_args()
     found, failed = list(sources()), 0
     for limit in BUDGET:
@@ -164,8 +164,7 @@ def main() -> int:
         failed += is_over
         if is_over or options.all:
             print(f"{limit.name}: {len(places):,}, and at most {limit.most:,} are allowed")
-            first = list(dict.fromkeys(places)) if len(places) <= 200 or is_over else []
-            print(*(f"    {it}" for it in first[:MOST]), sep="\n", end="\n" if first else "")
+            print("".join(f"    {it}\n" for it in places if limit.most < SHOWN), end="")
     print(f"{len(BUDGET) - failed} passed, {failed} failed")
     return 1 if failed else 0
 
