@@ -37,7 +37,7 @@ use Rattle.af_collect.specs.Losing.{vacated, without_descriptor}
 use Rattle.af_collect.specs.StoreView.{StoreView}
 use Rattle.af_collect.specs.contracts.holdings.Holdings.{the_view}
 use Rattle.af_collect.specs.declared.holdings.Holdings.TheInside.{Inside}
-use Rattle.af_collect.specs.declared.collector.Collector.{Collector}
+use Rattle.af_collect.specs.declared.store.Store.TheInside.{Inside as StoreInside}
 use Rattle.af_collect.specs.declared.progress.Stage.{Stage}
 use Rattle.af_collect.proofs.Bounds.{can-drop-table, can-hold-table}
 use Rattle.af_collect.proofs.LostFiles.{kept_closed, marked_closed}
@@ -127,7 +127,7 @@ rest-vacated s (Some f) v = refl
 -- ---- both invariants
 
 -- A descriptor that is not open: nothing changes.
-module _ (p : Collector) (h : Inside) (pid fd : ℕ) (free : table_at (the_view h).world pid fd ≡ None) (procs : Procs) (processes : procs.processes ≡ (uninstall (the_view h).world pid fd).processes) (next : procs.next_pid ≡ h.procs.next_pid) where
+module _ (p : StoreInside) (h : Inside) (pid fd : ℕ) (free : table_at (the_view h).world pid fd ≡ None) (procs : Procs) (processes : procs.processes ≡ (uninstall (the_view h).world pid fd).processes) (next : procs.next_pid ≡ h.procs.next_pid) where
   -- The processes are as they were.
   same-unopened : procs.processes ≡ h.procs.processes
   same-unopened = processes ∙ ap (λ (v : World). v.processes) (uninstall-none (the_view h).world pid fd free)
@@ -140,7 +140,7 @@ module _ (p : Collector) (h : Inside) (pid fd : ℕ) (free : table_at (the_view 
   pub seen-unopened : (o : StoreView) → the_view h ≡ p.holdings → shown p p.holdings ≡ o → procs.rows ≡ h.procs.rows → shown p (record (the_view h) { world = world_of procs h.files h.ledger; rows = procs.rows }) ≡ o
   seen-unopened o opened is rows = seen-same p h procs same-unopened next o opened is ∙ ap (λ r. record o { rows = r }) (rows ∙ ap (λ (t : HoldingsView). t.rows) opened ∙ ap (λ (t : StoreView). t.rows) is)
 
-module _ (p : Collector) (h : Inside) (was : BothInvariants p h.procs h.files h.ledger) (pid fd : ℕ) where
+module _ (p : StoreInside) (h : Inside) (was : BothInvariants p h.procs h.files h.ledger) (pid fd : ℕ) where
   -- The world before.
   abbrev w : World
   w = (the_view h).world

@@ -19,7 +19,7 @@ use Rattle.af_collect.specs.HoldingsView.{world_of}
 use Rattle.af_collect.specs.StoreView.{StoreView}
 use Rattle.af_collect.specs.contracts.holdings.Holdings.{the_view}
 use Rattle.af_collect.specs.declared.holdings.Holdings.TheInside.{Inside}
-use Rattle.af_collect.specs.declared.collector.Collector.{Collector}
+use Rattle.af_collect.specs.declared.store.Store.TheInside.{Inside as StoreInside}
 
 -- Where it is written back as it was, nothing changes.
 pub back-same : (m : Map Process) (p : ℕ) (q v : Process) → map.get m p ≡ Some q → v ≡ q → map.insert m p v ≡ m
@@ -33,7 +33,7 @@ back-changed g m p q v at is = ap (map.insert m p) is ∙ sym (ap (λ o. option_
 pub back-again : (g : Process → Process) (m : Map Process) (p : ℕ) (q v : Process) → v ≡ g q → map.insert m p v ≡ change_at g (map.insert m p q) p
 back-again g m p q v is = sym (insert_twice m p q v) ∙ back-changed g (map.insert m p q) p q v (insert-here m p q) is
 
-module _ (p : Collector) (h : Inside) (procs : Procs) (processes : procs.processes ≡ h.procs.processes) (next : procs.next_pid ≡ h.procs.next_pid) where
+module _ (p : StoreInside) (h : Inside) (procs : Procs) (processes : procs.processes ≡ h.procs.processes) (next : procs.next_pid ≡ h.procs.next_pid) where
   -- Where the processes are as they were, the invariants hold as before.
   pub stands-same : BothInvariants p h.procs h.files h.ledger → BothInvariants p procs h.files h.ledger
   stands-same was = both-same _ (the_view h).world _ (kept_of h.files.counts h.ledger) _ h.files.marks (world-is _ _ processes refl refl next refl) refl refl was.0 was.1
@@ -49,7 +49,7 @@ pub at-error : {T E : Type 0} {P : Type 0} (r : Result T E) → P → OnErr r P
 at-error (Ok t) holds = tt
 at-error (Err e) holds = holds
 
-module _ (p : Collector) (h : Inside) (pid : ℕ) (q : ProcessView) (at : map.get h.procs.processes pid ≡ Some q.process) (fs : FilesView) (files : fs ≡ h.files) where
+module _ (p : StoreInside) (h : Inside) (pid : ℕ) (q : ProcessView) (at : map.get h.procs.processes pid ≡ Some q.process) (fs : FilesView) (files : fs ≡ h.files) where
   -- The processes with q in place of pid's.
   abbrev lent : Procs
   lent = with_process h.procs pid q

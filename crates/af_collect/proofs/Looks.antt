@@ -1,5 +1,5 @@
 -- Marks that come from a look at some files.
-use Rattle.std.proofs.Common.{◌≡◌, ◌≤◌, ◌+◌, ◌&&◌, ◌⊎◌, ℕ, Bool, true, false, inl, inr, List, [], ◌∷◌, ◌++◌, length, refl, sym, ap, ◌∙◌, subst, arith}
+use Rattle.std.proofs.Common.{◌≡◌, ◌≤◌, ◌+◌, ◌&&◌, ◌⊎◌, ℕ, Bool, true, false, inl, inr, List, [], ◌∷◌, ◌++◌, refl, sym, ap, ◌∙◌, subst, arith}
 use Rattle.std.specs.Prelude.{nat_lt, if◌then◌else◌}
 use Rattle.std.specs.List.{Contains}
 use Rattle.std.specs.FinMap as map
@@ -13,10 +13,9 @@ use Rattle.af_base.proofs.Lookups.{insert-other, same_or_not}
 use Rattle.af_mark.specs.MarksView.{MarksView, blackened, is_mark, is_marked, is_white, marked_once, shaded, visited}
 use Rattle.af_mark.specs.declared.color.Color.{Color}
 use Rattle.af_mark.specs.declared.color.Color.TheVariants.{Black, Grey}
-use Rattle.af_collect.specs.HoldingsView.{HoldingsView}
 use Rattle.af_collect.specs.Keeping.{after_visit, shaded_all}
 use Rattle.af_collect.specs.Looks.{MarksByLooks, OnlyMarks}
-use Rattle.af_collect.specs.declared.collector.Collector.{Collector}
+use Rattle.af_collect.specs.StoreView.{StoreView}
 use Rattle.af_collect.proofs.MarkTests.{marked_blackened}
 
 module _ (m : MarksView) (x f : ℕ) where
@@ -89,16 +88,13 @@ module _ (w : World) where
   ])
 
 -- Nothing changed.
-pub only-none : (n : ℕ) (p : Collector) → OnlyMarks n p p
-only-none n p t = (t, refl, looks-none p.holdings.world n p.holdings.marks)
+pub only-none : (n : ℕ) (p : StoreView) → OnlyMarks n p p
+only-none n p t = (t, refl, looks-none p.world n p.marks)
 
 -- One change after another.
-pub only-join : (a b n : ℕ) → a + b ≤ n → (p q r : Collector) → OnlyMarks a p q → OnlyMarks b q r → OnlyMarks n p r
+pub only-join : (a b n : ℕ) → a + b ≤ n → (p q r : StoreView) → OnlyMarks a p q → OnlyMarks b q r → OnlyMarks n p r
 only-join a b n most p q r x y t =
     let second = y t in
     let first = x second.0 in
-    let here = subst (λ (s : HoldingsView). MarksByLooks s.world b q.holdings.marks r.holdings.marks) first.1 second.2 in (
-      first.0,
-      second.1 ∙ ap (λ (s : HoldingsView). record s { marks = r.holdings.marks }) first.1,
-      looks-join p.holdings.world a b n most p.holdings.marks q.holdings.marks r.holdings.marks first.2 here,
-    )
+    let here = subst (λ w. MarksByLooks w b q.marks r.marks) first.1 second.2 in
+    (first.0, second.1 ∙ first.1, looks-join p.world a b n most p.marks q.marks r.marks first.2 here)

@@ -27,6 +27,8 @@ use Rattle.af_base.proofs.Trees.{insert_same}
 use Rattle.af_base.proofs.StaysWithin.{len-change_at}
 use Rattle.af_base.specs.Pass.{emptied}
 use Rattle.af_base.proofs.Embryos.{Contains-dropped}
+use Rattle.af_mark.specs.MarksView.{MarksView}
+use Rattle.af_collect.specs.StoreView.{StoreView}
 use Rattle.af_collect.proofs.FreedFiles.{same_backlog, emptied-changed, emptied-popped}
 use Rattle.af_collect.proofs.Recounts.{Sheds, sheds-first}
 use Rattle.af_collect.specs.Losing.{places_at, without_place}
@@ -258,3 +260,11 @@ emptied-lost w s = by (nat_eq (length (queue_at w s)) 0) where
   by : (b : Bool) → emptied (nat_eq s) (if b then with_socket w s dequeued else with_queue w s (drop 1 (queue_at w s))) ≡ emptied (nat_eq s) w
   by true = emptied-changed w s dequeued (λ x. refl)
   by false = emptied-popped w s (drop 1 (queue_at w s))
+
+-- The view o with what freeing files changes taken from t.
+abbrev pub freed_from : StoreView → StoreView → StoreView
+freed_from t o = record o { world = t.world; marks = t.marks; message_room = t.message_room; progress = record o.progress { reclaimed = t.progress.reclaimed } }
+
+-- One change more of the kind that freeing files makes.
+pub freed_step : (a b o : StoreView) (w : World) (m : MarksView) (r : Bool) (n : ℕ) → a ≡ record b { world = w; marks = m; message_room = r; progress = record b.progress { reclaimed = n } } → b ≡ freed_from b o → a ≡ freed_from a o
+freed_step a b o w m r n is was = is ∙ sym (ap {A = StoreView} {B = StoreView} (λ t. freed_from t b) is) ∙ ap {A = StoreView} {B = StoreView} (freed_from a) was

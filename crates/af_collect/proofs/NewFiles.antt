@@ -42,7 +42,7 @@ use Rattle.af_collect.proofs.SocketChanges.{below-add_file, covers_queued, cover
 use Rattle.af_collect.proofs.TablePlaces.{covers_install, covers_install_lowest, moves_install, moves_install_files}
 use Rattle.af_collect.specs.contracts.holdings.Holdings.{the_view}
 use Rattle.af_collect.specs.declared.holdings.Holdings.TheInside.{Inside}
-use Rattle.af_collect.specs.declared.collector.Collector.{Collector}
+use Rattle.af_collect.specs.declared.store.Store.TheInside.{Inside as StoreInside}
 use Rattle.af_collect.proofs.StoreInvariant.{kept_made, kept_socket, kept_tables, made_spared, BothInvariants, both-same, seen-world, shown}
 
 -- The needs of connect(2): room for a file, a client never connected, and a listener with room.
@@ -98,7 +98,7 @@ module _ (p : Place) (m : Map CountView) (a : ℕ) where
         put_both (more p uncounted) ∙ ap (λ c. map.insert (map.insert both a (more p c)) b (more p uncounted)) first
         ∙ ap (λ c. map.insert one b (more p c)) (second other)
 
-module _ (p : Collector) (h : Inside) (was : BothInvariants p h.procs h.files h.ledger) where
+module _ (p : StoreInside) (h : Inside) (was : BothInvariants p h.procs h.files h.ledger) where
   -- The world before.
   abbrev w : World
   w = (the_view h).world

@@ -29,7 +29,7 @@ use Rattle.af_collect.specs.Keeping.{NotBegunGarbage, pass_of}
 use Rattle.af_collect.specs.StoreView.{StoreView}
 use Rattle.af_collect.specs.contracts.holdings.Holdings.{the_view}
 use Rattle.af_collect.specs.declared.holdings.Holdings.TheInside.{Inside}
-use Rattle.af_collect.specs.declared.collector.Collector.{Collector}
+use Rattle.af_collect.specs.declared.store.Store.TheInside.{Inside as StoreInside}
 use Rattle.af_collect.proofs.StoreInvariant.{seen-world, shown}
 
 -- The message that a receive hands on.
@@ -84,7 +84,7 @@ module _ (w : World) (s n : ℕ) (k : Tally) (h : IsExact w k) (some : 0 < n) (s
 abbrev pub Receives : World → ℕ → ℕ → List ℕ → Type 0
 Receives w s pid fds = (is_none (socket_at w s) ≡ false) × IsTrue (finmap.contains_key w.processes pid) × ((k : ℕ) × (fds ≡ lowest_free k (process_at w pid)))
 
-module _ (p : Collector) (h : Inside) (o : StoreView) (opened : the_view h ≡ p.holdings) (seen : shown p p.holdings ≡ o) (s max pid : ℕ) (fds : List ℕ) (asked : CanReceive o s max pid fds) where
+module _ (p : StoreInside) (h : Inside) (o : StoreView) (opened : the_view h ≡ p.holdings) (seen : shown p p.holdings ≡ o) (s max pid : ℕ) (fds : List ℕ) (asked : CanReceive o s max pid fds) where
   -- The world of the store.
   abbrev w : World
   w = (the_view h).world

@@ -9,7 +9,6 @@ use Rattle.af_desc.proofs.SendSync.{files_send}
 use Rattle.af_collect.specs.contracts.holdings.Holdings as Holdings
 use Rattle.af_collect.specs.contracts.holdings.Holdings.TheInside as HoldingsInside
 use Rattle.af_collect.proofs.progress.PassProgress.TheSendSync as progress
-use Rattle.af_collect.specs.contracts.collector.Collector as Collector
 use Rattle.af_collect.specs.contracts.store.Store as Store
 use Rattle.af_collect.specs.contracts.store.Store.TheInside as StoreInside
 
@@ -21,13 +20,9 @@ holdings_inside = declared_send HoldingsInside.the_type (search (sendable, cross
 holdings_send : IsSend Holdings.the_row
 holdings_send = search (sendable, holdings_inside) depth 10
 
--- The holdings with their pass may go to another thread.
-parts_send : IsSend Collector.the_row
-parts_send = search (sendable, crosses, holdings_send, progress.the_field_send) depth 40
-
 -- The fields of a store may go to another thread.
 store_inside : IsSend StoreInside.the_row
-store_inside = declared_send StoreInside.the_type (parts_send, tt)
+store_inside = declared_send StoreInside.the_type (holdings_send, (search (sendable, crosses, holdings_send) depth 40, (search (sendable, crosses, progress.the_field_send) depth 40, (search (sendable, crosses) depth 20, tt))))
 
 -- So may a store.
 pub store_send : IsSend Store.the_row

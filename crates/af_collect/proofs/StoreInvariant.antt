@@ -35,10 +35,10 @@ use Rattle.af_collect.proofs.TablePlaces.{covers_install_lowest, covers_limited,
 use Rattle.af_collect.proofs.SparedFiles.{held_spared, marking_runs, spared_running}
 use Rattle.af_collect.proofs.LostFiles.{marked_there}
 use Rattle.af_collect.specs.HoldingsView.{AreExact, HoldingsView, world_of}
-use Rattle.af_collect.specs.StoreView.{KeepsPass, KeepsPassWith, StoreView}
+use Rattle.af_collect.specs.StoreView.{KeepsPass, MarksAll, StoreView}
 use Rattle.af_collect.specs.contracts.holdings.Holdings.{the_view}
 use Rattle.af_collect.specs.declared.holdings.Holdings.TheInside.{Inside}
-use Rattle.af_collect.specs.declared.collector.Collector.{Collector}
+use Rattle.af_collect.specs.declared.store.Store.TheInside.{Inside as StoreInside}
 
 -- A process started changes no file.
 pub files_spawned : (w : World) (uid nofile : ℕ) (privileged : Bool) → ((spawned w uid nofile privileged).files ≡ w.files) × ((spawned w uid nofile privileged).next_ino ≡ w.next_ino)
@@ -136,13 +136,17 @@ module _ {w begun : World} {m : MarksView} {c : PassProgress} where
 
 -- ---- the store
 
+-- The view of this store with other holdings.
+abbrev pub shown : StoreInside → HoldingsView → StoreView
+shown p t = record { world = t.world; rows = t.rows; message_room = t.message_room; begun = p.begun.value.world; pass = pass_of p.progress.stage p.begun.value.world p.progress.looked; marks = t.marks; progress = p.progress; since = t.since }
+
 -- These processes, files and charges are exact, and the invariant of the pass holds with them.
-abbrev pub BothInvariants : Collector → Procs → FilesView → LedgerView → Type 0
+abbrev pub BothInvariants : StoreInside → Procs → FilesView → LedgerView → Type 0
 BothInvariants p procs files ledger = AreExact procs files ledger × PassInvariant (world_of procs files ledger) p.begun.value.world files.marks p.progress
 
--- So it is where the holdings of the collector are opened.
-pub stood : (p : Collector) (h : Inside) → the_view h ≡ p.holdings → AreExact h.procs h.files h.ledger → KeepsPass p → BothInvariants p h.procs h.files h.ledger
-stood p h seen exact kept = (exact, subst (KeepsPassWith p) (sym seen) kept)
+-- So it is where the holdings of a store are opened.
+pub stood : (p : StoreInside) (h : Inside) → the_view h ≡ p.holdings → AreExact h.procs h.files h.ledger → KeepsPass (shown p p.holdings) → BothInvariants p h.procs h.files h.ledger
+stood p h seen exact kept = (exact, subst (λ (t : HoldingsView). KeepsPass (shown p t)) (sym seen) kept)
 
 module _ {begun : World} {c : PassProgress} where
   -- The invariant of a world is one of its equals.
@@ -153,7 +157,7 @@ module _ {begun : World} {c : PassProgress} where
   pub both-same : (v w : World) (k l : Tally) (m n : MarksView) → v ≡ w → k ≡ l → m ≡ n → IsExact w l → PassInvariant w begun n c → IsExact v k × PassInvariant v begun m c
   both-same v w k l m n world numbers marks exact kept = (exact-same v w k l world numbers exact, kept-same v w m n world marks kept)
 
-module _ {T E : Type 0} (r : Result T E) (p : Collector) (h : Inside) (new : FilesView) (err : OnErr r (new ≡ h.files)) (was : BothInvariants p h.procs h.files h.ledger) where
+module _ {T E : Type 0} (r : Result T E) (p : StoreInside) (h : Inside) (new : FilesView) (err : OnErr r (new ≡ h.files)) (was : BothInvariants p h.procs h.files h.ledger) where
   -- A call has left these files, with which the invariant holds, or everything as it was.
   pub stands-either : (to : FilesView) → OnOk r (new ≡ to) → BothInvariants p h.procs to h.ledger → BothInvariants p h.procs new h.ledger
   stands-either to ok stands = by r ok err where
@@ -168,18 +172,18 @@ module _ {T E : Type 0} (r : Result T E) (p : Collector) (h : Inside) (new : Fil
       let begun = p.begun.value.world in
       stands-either (changed g s h.files) ok (exact, kept_socket s g (λ _. moves_same w s g same begun) (λ _. covers_same w s g same begun (is_marked h.files.marks) (below p.progress.visited)) was.1)
 
--- The view of a store over these holdings, if the pass is that of this collector.
-abbrev pub shown : Collector → HoldingsView → StoreView
-shown p t = record { world = t.world; rows = t.rows; message_room = t.message_room; pass = pass_of p.progress.stage p.begun.value.world p.progress.looked; marks = t.marks; progress = p.progress; since = t.since }
-
 -- Where the world alone is changed, a caller sees it change so.
-pub seen-changed : (p : Collector) (h : Inside) (o : StoreView) (f : World → World) → the_view h ≡ p.holdings → shown p p.holdings ≡ o → shown p (record (the_view h) { world = f (the_view h).world }) ≡ record o { world = f o.world }
+pub seen-changed : (p : StoreInside) (h : Inside) (o : StoreView) (f : World → World) → the_view h ≡ p.holdings → shown p p.holdings ≡ o → shown p (record (the_view h) { world = f (the_view h).world }) ≡ record o { world = f o.world }
 seen-changed p h o f opened is = ap {A = HoldingsView} {B = StoreView} (λ t. shown p (record t { world = f t.world })) opened ∙ ap {A = StoreView} {B = StoreView} (λ t. record t { world = f t.world }) is
 
 -- The same, where other files are marked then, and there is room for a message more or less.
-pub seen-moved : (p : Collector) (h : Inside) (o : StoreView) (f : World → World) (m : MarksView) (b : Bool) → the_view h ≡ p.holdings → shown p p.holdings ≡ o → shown p (record (the_view h) { world = f (the_view h).world; marks = m; message_room = b }) ≡ record o { world = f o.world; marks = m; message_room = b }
+pub seen-moved : (p : StoreInside) (h : Inside) (o : StoreView) (f : World → World) (m : MarksView) (b : Bool) → the_view h ≡ p.holdings → shown p p.holdings ≡ o → shown p (record (the_view h) { world = f (the_view h).world; marks = m; message_room = b }) ≡ record o { world = f o.world; marks = m; message_room = b }
 seen-moved p h o f m b opened is = ap {A = HoldingsView} {B = StoreView} (λ t. shown p (record t { world = f t.world; marks = m; message_room = b })) opened ∙ ap {A = StoreView} {B = StoreView} (λ t. record t { world = f t.world; marks = m; message_room = b }) is
 
 -- And a caller sees that world.
-pub seen-world : (p : Collector) (h : Inside) (o : StoreView) → the_view h ≡ p.holdings → shown p p.holdings ≡ o → o.world ≡ (the_view h).world
+pub seen-world : (p : StoreInside) (h : Inside) (o : StoreView) → the_view h ≡ p.holdings → shown p p.holdings ≡ o → o.world ≡ (the_view h).world
 seen-world p h o opened is = sym (ap (λ (t : HoldingsView). t.world) opened ∙ ap (λ (t : StoreView). t.world) is)
+
+-- Where nothing but marks changed, the files that were marked are marked in what is opened then.
+pub marks-shown : (these : World → ℕ → Type 0) (old new t : StoreView) → t ≡ new → new ≡ record old { marks = new.marks } → MarksAll (these old.world) old new → MarksAll (these t.world) t t
+marks-shown these old new t seen frame all = subst (λ (r : StoreView). MarksAll (these r.world) r r) (sym seen) (subst (λ (r : StoreView). MarksAll (these r.world) r new) (sym frame) all)

@@ -12,14 +12,14 @@ use Rattle.af_collect.specs.HoldingsView.{HoldingsView}
 use Rattle.af_mark.specs.MarksView.{MarksView, is_marked}
 use Rattle.af_collect.specs.Keeping.{PassInvariant, is_marking, shaded_all}
 use Rattle.af_collect.specs.declared.progress.PassProgress.{PassProgress}
-use Rattle.af_collect.specs.declared.collector.Collector.{Collector}
 
--- The world, the size of each table, whether there is room for a message more, the running pass,
--- its marks, its progress, and the period of the lists.
+-- The world, the size of each table, whether there is room for a message more, the world when the
+-- last pass began, the running pass, its marks, its progress, and the period of the lists.
 pub record StoreView : Type 0 where
   pub world : World
   pub rows : Map ℕ
   pub message_room : Bool
+  pub begun : World
   pub pass : Pass
   pub marks : MarksView
   pub progress : PassProgress
@@ -29,26 +29,18 @@ pub record StoreView : Type 0 where
 abbrev pub room_at : StoreView → ℕ → ℕ
 room_at s p = row_in s.rows p
 
--- The invariant of this collector's pass, with other holdings.
-abbrev pub KeepsPassWith : Collector → HoldingsView → Type 0
-KeepsPassWith p s = PassInvariant s.world p.begun.value.world s.marks p.progress
-
--- The same, with its own.
-abbrev pub KeepsPass : Collector → Type 0
-KeepsPass p = KeepsPassWith p p.holdings
-
--- The same collector with these marks.
-abbrev pub with_marks : MarksView → Collector → Collector
-with_marks m p = record p { holdings = record p.holdings { marks = m } }
+-- The invariant of the pass of this store.
+abbrev pub KeepsPass : StoreView → Type 0
+KeepsPass s = PassInvariant s.world s.begun s.marks s.progress
 
 -- All these files are shaded, and nothing else changes.
 abbrev pub Shades : List ℕ → HoldingsView → HoldingsView → Type 0
 Shades files old new = new ≡ record old { marks = shaded_all files old.marks }
 
 -- Where a pass marks, each of these files that was there at its begin is marked.
-abbrev pub MarksAll : (ℕ → Type 0) → Collector → Collector → Type 0
+abbrev pub MarksAll : (ℕ → Type 0) → StoreView → StoreView → Type 0
 MarksAll these old new = is_marking old.progress.stage ≡ true → (f : ℕ) → these f
-    → IsLive old.begun.value.world f → is_marked new.holdings.marks f ≡ true
+    → IsLive old.begun f → is_marked new.marks f ≡ true
 
 -- The reply to a slice: the pass has work left, or it is done, and this many sockets were garbage.
 abbrev pub slice_reply : ℕ → Option ℕ → Reply

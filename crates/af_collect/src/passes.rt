@@ -5,21 +5,22 @@ ghost use Rattle.af_base.specs.Pass.{Idle, IsInTime, Running, Slices};
 ghost use Rattle.af_base.specs.Unheld.{Settles};
 ghost use Rattle.af_base.specs.Whole.{IsSound};
 ghost use Rattle.af_mark.specs.MarksView.{is_marked, is_unmarked};
-ghost use Rattle.af_collect.specs.Keeping.{PassInvariant, is_marking, runs};
+ghost use Rattle.af_collect.specs.Keeping.{PassInvariant, is_marking, pass_of, runs};
 ghost use Rattle.af_collect.specs.Looks.{MarksByLooks};
 ghost use Rattle.af_collect.specs.Collecting.{Collects};
 ghost use Rattle.af_collect.specs.StoreView.{slice_reply};
 
-use crate::progress::Stage;
+use crate::progress::{PassProgress, Stage};
 use crate::store::Store;
 use af_base::limits::MAX_BUDGET;
+use std::snapshot::Snapshot;
 
 impl Store {
     /// Returns whether a pass runs.
     pub fn is_passing(&self) -> bool
         ensures { result ≡ runs self.now.pass }
     {
-        self.collector.is_running()
+        !matches!(self.progress.stage, Stage::Resting)
     }
 
     /// Returns how many files the pass has visited, scanned and swept since it began. It is 0 after
@@ -27,7 +28,7 @@ impl Store {
     pub fn looked(&self) -> u64
         ensures { result ≡ self.now.progress.looked }
     {
-        self.collector.progress.looked
+        self.progress.looked
     }
 
     /// Does nothing at run time. Shows what a running pass keeps between any two calls: of its
@@ -38,7 +39,16 @@ impl Store {
         ensures in_time { IsInTime self.now.pass }
     {
         // The invariant says it: reading a field gives it to the prover.
-        let _collector = &self.collector;
+        let _progress = &self.progress;
+    }
+
+    /// Does nothing at run time. Shows that the pass that a caller sees is that of the progress.
+    fn lemma_progress(&self)
+        ensures { self.now.pass
+            ≡ pass_of self.now.progress.stage self.now.begun self.now.progress.looked }
+    {
+        // The view says it: reading a field gives it to the prover.
+        let _progress = &self.progress;
     }
 
     /// Begins a pass over the world: no file is marked yet, and none was looked at. Costs the same
@@ -53,7 +63,16 @@ impl Store {
         ensures unmarked { (f : ℕ) → is_marked self.new.marks f ≡ false }
         ensures looked { self.new.progress.looked ≡ 0 }
     {
-        self.collector.begin();
+        self.begun = Snapshot::of(&self.holdings);
+        self.holdings.start_epoch();
+        self.order_hint = 0;
+        self.progress = PassProgress {
+            stage: Stage::Marking,
+            visited: 0,
+            swept: 0,
+            looked: 0,
+            reclaimed: 0,
+        };
     }
 
     /// Does at most `budget` units, each of which visits, scans or sweeps one file. If the pass is
@@ -72,12 +91,15 @@ impl Store {
         ensures rises { self.old.progress.looked ≤ self.new.progress.looked }
         ensures none_due { IfSome result (λ _. (f : ℕ) → is_unmarked self.new.marks f ≡ false) }
     {
-        if !self.collector.do_units(budget) {
+        self.lemma_progress();
+        if !self.do_units(budget) {
+            self.lemma_progress();
+            self.lemma_pass();
             return None;
         }
-        self.collector.progress.stage = Stage::Resting;
-        self.collector.holdings.end_pass();
-        Some(self.collector.progress.reclaimed)
+        self.progress.stage = Stage::Resting;
+        self.holdings.end_pass();
+        Some(self.progress.reclaimed)
     }
 
     /// Runs a whole pass. Returns how many sockets were garbage.
@@ -90,11 +112,15 @@ impl Store {
         ensures pass { self.new.pass ≡ Idle }
         ensures none_due { (f : ℕ) → is_unmarked self.new.marks f ≡ false }
     {
-        self.collector.begin();
-        while !self.collector.do_units(MAX_BUDGET) {}
-        self.collector.progress.stage = Stage::Resting;
-        self.collector.holdings.end_pass();
-        self.collector.progress.reclaimed
+        self.begin();
+        self.lemma_progress();
+        while !self.do_units(MAX_BUDGET) {
+            self.lemma_progress();
+            self.lemma_pass();
+        }
+        self.progress.stage = Stage::Resting;
+        self.holdings.end_pass();
+        self.progress.reclaimed
     }
 
     /// Frees the unreferenced files, one after another. Drops all references that such a file
@@ -110,9 +136,9 @@ impl Store {
             ≡ record self.old.progress { reclaimed = self.new.progress.reclaimed } }
     {
         // Most steps leave nothing unreferenced, and then nothing is called.
-        let Some(_) = self.collector.holdings.next_unreferenced() else {
+        let Some(_) = self.holdings.next_unreferenced() else {
             return;
         };
-        self.collector.release();
+        self.free_unreferenced();
     }
 }

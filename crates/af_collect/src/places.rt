@@ -51,7 +51,7 @@ impl Store {
         requires spared { NotBegunGarbage self.old.pass file }
         ensures { self.new ≡ record self.old { world = install self.old.world pid fd file } }
     {
-        let holdings = &mut self.collector.holdings;
+        let holdings = &mut self.holdings;
         holdings.files.hold(&Place::Table, &file);
         holdings.procs.install(pid, fd, file);
     }
@@ -70,9 +70,9 @@ impl Store {
           marks = self.new.marks;
         } }
     {
-        let holdings = &mut self.collector.holdings;
+        let holdings = &mut self.holdings;
         let was = holdings.procs.replace(pid, fd, file.duplicate());
-        drop_replaced(&self.collector.progress, &mut holdings.files, was);
+        drop_replaced(&self.progress, &mut holdings.files, was);
         holdings.files.hold(&Place::Table, &file);
     }
 
@@ -86,11 +86,11 @@ impl Store {
         } }
         ensures unchanged { result ≡ false → self.new ≡ self.old }
     {
-        let holdings = &mut self.collector.holdings;
+        let holdings = &mut self.holdings;
         let Some(file) = holdings.procs.take_out(pid, fd) else {
             return false;
         };
-        drop_descriptor(&self.collector.progress, &mut holdings.files, &file);
+        drop_descriptor(&self.progress, &mut holdings.files, &file);
         true
     }
 
@@ -130,11 +130,11 @@ impl Store {
         } }
         ensures unchanged { result ≡ false → self.new ≡ self.old }
     {
-        let holdings = &mut self.collector.holdings;
+        let holdings = &mut self.holdings;
         let Some(file) = holdings.procs.take_out(pid, fd) else {
             return false;
         };
-        drop_and_free(&self.collector.progress, &mut holdings.files, &file);
+        drop_and_free(&self.progress, &mut holdings.files, &file);
         true
     }
 
@@ -167,7 +167,7 @@ impl Store {
           message_room = self.new.message_room;
         } }
     {
-        let holdings = &mut self.collector.holdings;
+        let holdings = &mut self.holdings;
         charge_message(
             &mut holdings.files,
             &mut holdings.ledger,
@@ -204,7 +204,7 @@ impl Store {
         ensures succeeds { IfSome (socket_at self.old.world socket.now) (λ s.
             s.kind ≡ Seqpacket) → IsOk result }
     {
-        let holdings = &mut self.collector.holdings;
+        let holdings = &mut self.holdings;
         holdings.files.take(socket, max, taken)?;
         let attached = taken.attached();
         receive_all(
@@ -216,7 +216,7 @@ impl Store {
             taken.user(),
             attached,
         );
-        shade_taken(&self.collector.progress, &mut holdings.files, attached);
+        shade_taken(&self.progress, &mut holdings.files, attached);
         Ok(())
     }
 
@@ -239,7 +239,7 @@ impl Store {
         }) }
         ensures err { OnErr result (self.new ≡ self.old) }
     {
-        let holdings = &mut self.collector.holdings;
+        let holdings = &mut self.holdings;
         let seen = holdings.files.peek(socket, max)?;
         // Nothing leaves a place, so nothing is to be marked.
         table_in_all(

@@ -38,7 +38,7 @@ impl Store {
         }) }
         ensures err { OnErr result (self.new ≡ self.old) }
     {
-        let holdings = &mut self.collector.holdings;
+        let holdings = &mut self.holdings;
         let file = holdings.files.make_sock(kind, &Place::Table)?;
         holdings.procs.install(pid, fd, file);
         Ok(())
@@ -61,7 +61,7 @@ impl Store {
         }) }
         ensures err { OnErr result (self.new ≡ record self.old { rows = self.new.rows }) }
     {
-        let holdings = &mut self.collector.holdings;
+        let holdings = &mut self.holdings;
         let process = holdings.procs.find_with_room(pid)?;
         let file = holdings.files.make_sock(kind, &Place::Table)?;
         process.install(fd, file);
@@ -79,7 +79,7 @@ impl Store {
         }) }
         ensures err { OnErr result (self.new ≡ self.old) }
     {
-        let holdings = &mut self.collector.holdings;
+        let holdings = &mut self.holdings;
         holdings.files.bind(socket, name)
     }
 
@@ -95,7 +95,7 @@ impl Store {
             ≡ record self.old { world = with_socket self.old.world socket.now (listening most) }) }
         ensures err { OnErr result (self.new ≡ self.old) }
     {
-        let holdings = &mut self.collector.holdings;
+        let holdings = &mut self.holdings;
         holdings.files.listen(socket, most)
     }
 
@@ -120,7 +120,7 @@ impl Store {
         }) }
         ensures err { OnErr result (self.new ≡ self.old) }
     {
-        let holdings = &mut self.collector.holdings;
+        let holdings = &mut self.holdings;
         let embryo = holdings.files.make_embryo(kind, client, &Place::Backlog)?;
         holdings.files.enqueue(listener, embryo);
         Ok(())
@@ -137,7 +137,7 @@ impl Store {
         ensures { self.new
             ≡ record self.old { world = with_socket self.old.world listener.now (queued embryo) } }
     {
-        let holdings = &mut self.collector.holdings;
+        let holdings = &mut self.holdings;
         holdings.files.hold(&Place::Backlog, &embryo);
         holdings.files.enqueue(listener, embryo);
     }
@@ -158,8 +158,8 @@ impl Store {
               marks = self.new.marks;
             } }
     {
-        self.collector.shade_embryo(listener);
-        let holdings = &mut self.collector.holdings;
+        self.shade_embryo(listener);
+        let holdings = &mut self.holdings;
         let embryo = holdings.files.dequeue(listener).unwrap();
         holdings.files.move_to_table(&Place::Backlog, &embryo);
         holdings.procs.install(pid, fd, embryo);

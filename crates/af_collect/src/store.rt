@@ -13,7 +13,6 @@ ghost use Rattle.af_base.specs.Told.{AreChanged, AreSocketsOnce, TellsReleased};
 ghost use Rattle.af_collect.specs.Limits.{IsBelowLimit};
 ghost use Rattle.af_collect.specs.StoreView.{room_at};
 
-use crate::collector::Collector;
 use crate::holdings::Holdings;
 use crate::progress::{PassProgress, Stage};
 use crate::tables::{ref_table, unref_table};
@@ -28,38 +27,49 @@ use std::snapshot::Snapshot;
 /// The processes with their tables, the files, how many places hold each file, and the pass of the
 /// collector, if one runs.
 pub struct Store {
-    pub(crate) collector: Collector,
+    pub(crate) holdings: Holdings,
+    /// The holdings when the pass began: for contracts alone.
+    pub(crate) begun: Snapshot<Holdings>,
+    pub(crate) progress: PassProgress,
+    /// The position in the order behind the file that a pass visited or swept last: a hint.
+    pub(crate) order_hint: usize,
 }
 
 /// It is written out, and not derived: so an owner's proof has one call where it drops a store.
 impl Drop for Store {
     fn drop(self) {
-        let Store { collector: _ } = self;
+        let Store {
+            holdings: _,
+            begun: _,
+            progress: _,
+            order_hint: _,
+        } = self;
     }
 }
 
 impl Model for Store {
     ghost use Rattle.std.specs.FinMap as map;
     ghost use Rattle.std.specs.Coded.{codes};
-    ghost use Rattle.af_collect.specs.Keeping.{pass_of};
-    ghost use Rattle.af_collect.specs.StoreView.{KeepsPass, StoreView};
+    ghost use Rattle.af_collect.specs.Keeping.{PassInvariant, pass_of};
+    ghost use Rattle.af_collect.specs.StoreView.{StoreView};
 
     ghost Value = { StoreView };
 
     ghost coded = { Prim.hlevel (codes, map.code) };
 
     ghost view = { λ s. record {
-      world = s.collector.holdings.world;
-      rows = s.collector.holdings.rows;
-      message_room = s.collector.holdings.message_room;
-      pass = pass_of s.collector.progress.stage s.collector.begun.value.world
-          s.collector.progress.looked;
-      marks = s.collector.holdings.marks;
-      progress = s.collector.progress;
-      since = s.collector.holdings.since;
+      world = s.holdings.world;
+      rows = s.holdings.rows;
+      message_room = s.holdings.message_room;
+      begun = s.begun.value.world;
+      pass = pass_of s.progress.stage s.begun.value.world s.progress.looked;
+      marks = s.holdings.marks;
+      progress = s.progress;
+      since = s.holdings.since;
     } };
 
-    ghost invariant = { λ s. KeepsPass s.collector };
+    ghost invariant = { λ s.
+        PassInvariant s.holdings.world s.begun.value.world s.holdings.marks s.progress };
 }
 
 impl Store {
@@ -72,18 +82,16 @@ impl Store {
         let holdings = Holdings::new(alloc);
         let begun = Snapshot::of(&holdings);
         Store {
-            collector: Collector {
-                holdings,
-                begun,
-                progress: PassProgress {
-                    stage: Stage::Resting,
-                    visited: 0,
-                    swept: 0,
-                    looked: 0,
-                    reclaimed: 0,
-                },
-                order_hint: 0,
+            holdings,
+            begun,
+            progress: PassProgress {
+                stage: Stage::Resting,
+                visited: 0,
+                swept: 0,
+                looked: 0,
+                reclaimed: 0,
             },
+            order_hint: 0,
         }
     }
 
@@ -99,7 +107,7 @@ impl Store {
         ensures pid { IfOk result (λ pid. pid ≡ self.old.world.next_pid) }
         ensures err { OnErr result (self.new ≡ self.old) }
     {
-        let holdings = &mut self.collector.holdings;
+        let holdings = &mut self.holdings;
         holdings.procs.room_to_spawn()?;
         holdings.ledger.add_user(uid)?;
         Ok(holdings.procs.spawn(uid, limit, privileged))
@@ -111,7 +119,7 @@ impl Store {
         requires { limit ≤ MAX_NOFILE }
         ensures { self.new ≡ record self.old { world = set_limit self.old.world pid limit } }
     {
-        let holdings = &mut self.collector.holdings;
+        let holdings = &mut self.holdings;
         holdings.procs.set_limit(pid, limit);
     }
 
@@ -131,7 +139,7 @@ impl Store {
         ensures none { count ≡ 0 → IsOk result }
         ensures ready { (process_at self.old.world pid).limit ≤ room_at self.old pid → IsOk result }
     {
-        let holdings = &mut self.collector.holdings;
+        let holdings = &mut self.holdings;
         holdings.procs.room_for(pid, count)
     }
 
@@ -142,7 +150,7 @@ impl Store {
         ensures succeeds { self.old.message_room ≡ true → IsOk result }
         ensures rest { self.new ≡ record self.old { message_room = self.new.message_room } }
     {
-        let holdings = &mut self.collector.holdings;
+        let holdings = &mut self.holdings;
         holdings.files.room_for_message()
     }
 
@@ -158,7 +166,7 @@ impl Store {
         }) }
         ensures err { OnErr result (self.new ≡ self.old) }
     {
-        let holdings = &mut self.collector.holdings;
+        let holdings = &mut self.holdings;
         holdings.files.tell_released()
     }
 
@@ -175,7 +183,7 @@ impl Store {
         }) }
         ensures err { OnErr result (self.new ≡ self.old) }
     {
-        let holdings = &mut self.collector.holdings;
+        let holdings = &mut self.holdings;
         holdings.files.tell_changed()
     }
 
@@ -184,7 +192,7 @@ impl Store {
     pub fn released_files(&self) -> &[Ino]
         ensures { TellsReleased self.now.world self.now.since result.now }
     {
-        self.collector.holdings.files().released_files()
+        self.holdings.files().released_files()
     }
 
     /// Returns the sockets whose readiness may have changed since the lists were last emptied, each
@@ -194,7 +202,7 @@ impl Store {
         ensures changed { self.now.since.changed ≡ true
             → AreChanged self.now.world.files self.now.since result.now }
     {
-        self.collector.holdings.files().changed_sockets()
+        self.holdings.files().changed_sockets()
     }
 
     /// Empties both lists. Takes no memory.
@@ -206,7 +214,7 @@ impl Store {
           };
         } }
     {
-        let holdings = &mut self.collector.holdings;
+        let holdings = &mut self.holdings;
         holdings.files.clear_told();
     }
 
@@ -224,7 +232,7 @@ impl Store {
         }) }
         ensures err { OnErr result (self.new ≡ self.old) }
     {
-        let holdings = &mut self.collector.holdings;
+        let holdings = &mut self.holdings;
         let file = holdings.files.make_plain(&Place::Table)?;
         holdings.procs.install(pid, fd, file);
         Ok(())
@@ -245,7 +253,7 @@ impl Store {
         }) }
         ensures err { OnErr result (self.new ≡ record self.old { rows = self.new.rows }) }
     {
-        let holdings = &mut self.collector.holdings;
+        let holdings = &mut self.holdings;
         let process = holdings.procs.find_with_room(pid)?;
         let file = holdings.files.make_plain(&Place::Table)?;
         process.install(fd, file);
@@ -273,7 +281,7 @@ impl Store {
         }) }
         ensures err { OnErr result (self.new ≡ self.old) }
     {
-        let holdings = &mut self.collector.holdings;
+        let holdings = &mut self.holdings;
         let (first, second) = holdings.files.make_two(kind, &Place::Table)?;
         holdings.procs.install(pid, lower, first);
         holdings.procs.install(pid, higher, second);
@@ -303,7 +311,7 @@ impl Store {
         }) }
         ensures err { OnErr result (self.new ≡ record self.old { rows = self.new.rows }) }
     {
-        let holdings = &mut self.collector.holdings;
+        let holdings = &mut self.holdings;
         let process = holdings.procs.find_with_room(pid)?;
         let (first, second) = holdings.files.make_two(kind, &Place::Table)?;
         process.install(lower, first);
@@ -325,7 +333,7 @@ impl Store {
         ensures pid { IfOk result (λ child. child ≡ self.old.world.next_pid) }
         ensures err { OnErr result (self.new ≡ self.old) }
     {
-        let holdings = &mut self.collector.holdings;
+        let holdings = &mut self.holdings;
         let child = holdings.procs.copy_for_fork(pid)?;
         let process = holdings.procs.find(child).unwrap();
         ref_table(&mut holdings.files, process);
@@ -340,8 +348,8 @@ impl Store {
         ensures since { self.new.since ≡ self.old.since }
         ensures progress { self.new.progress ≡ self.old.progress }
     {
-        self.collector.shade_table(pid);
-        let holdings = &mut self.collector.holdings;
+        self.shade_table(pid);
+        let holdings = &mut self.holdings;
         let Some(process) = holdings.procs.find(pid) else {
             return;
         };

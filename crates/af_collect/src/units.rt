@@ -3,68 +3,38 @@ ghost use Rattle.std.specs.Prelude.{◌≡◌, ◌<◌, ◌≤◌, ◌+◌, ℕ,
 ghost use Rattle.af_base.specs.World.{IsLive};
 ghost use Rattle.af_base.specs.Reached.{IsGarbageCount};
 ghost use Rattle.af_base.specs.Whole.{IsSound};
-ghost use Rattle.af_mark.specs.MarksView.{is_grey, is_marked};
+ghost use Rattle.af_mark.specs.MarksView.{is_grey};
 ghost use Rattle.af_collect.specs.declared.progress.Stage.TheVariants as stage;
 ghost use Rattle.af_collect.specs.Keeping.{is_running};
 ghost use Rattle.af_collect.specs.Looks.{MarksByLooks, OnlyMarks};
 ghost use Rattle.af_collect.specs.Purged.{ArePurged};
 ghost use Rattle.af_collect.specs.Collecting.{NoneLeft, NoneLive};
-ghost use Rattle.af_collect.specs.StoreView.{KeepsPass};
 
-use crate::collector::Collector;
-use crate::progress::{PassProgress, Stage};
+use crate::progress::Stage;
+use crate::store::Store;
 use af_base::ids::{FileRef, Ino};
-use std::snapshot::Snapshot;
 
-impl Collector {
-    /// Begins a pass over the present files: none is marked. Costs the same for any number of
-    /// files, except once in 2^32 passes.
-    pub fn begin(&mut self)
-        requires kept { KeepsPass self.old }
-        requires sound { IsSound self.old.holdings.world }
-        ensures kept { KeepsPass self.new }
-        ensures holdings { self.new.holdings
-            ≡ record self.old.holdings { marks = self.new.holdings.marks } }
-        ensures begun { self.new.begun.value ≡ self.old.holdings }
-        ensures stage { self.new.progress.stage ≡ stage.Marking }
-        ensures looked { self.new.progress.looked ≡ 0 }
-        ensures unmarked { (f : ℕ) → is_marked self.new.holdings.marks f ≡ false }
-    {
-        self.begun = Snapshot::of(&self.holdings);
-        self.holdings.start_epoch();
-        self.order_hint = 0;
-        self.progress = PassProgress {
-            stage: Stage::Marking,
-            visited: 0,
-            swept: 0,
-            looked: 0,
-            reclaimed: 0,
-        };
-    }
-
+impl Store {
     /// Does at most as many units as the budget has. Returns whether the pass is over: then no
     /// garbage of its begin is left, and the number of reclaimed sockets is the number of those
     /// that were garbage.
-    pub fn do_units(&mut self, budget: u32) -> bool
-        requires kept { KeepsPass self.old }
+    pub(crate) fn do_units(&mut self, budget: u32) -> bool
         requires running { is_running self.old.progress.stage ≡ true }
-        requires sound { IsSound self.old.holdings.world }
-        ensures kept { KeepsPass self.new }
+        requires sound { IsSound self.old.world }
         ensures running { is_running self.new.progress.stage ≡ true }
-        ensures sound { IsSound self.new.holdings.world }
-        ensures rows { self.new.holdings.rows ≡ self.old.holdings.rows }
-        ensures since { self.new.holdings.since ≡ self.old.holdings.since }
+        ensures sound { IsSound self.new.world }
+        ensures rows { self.new.rows ≡ self.old.rows }
+        ensures since { self.new.since ≡ self.old.since }
         ensures begun { self.new.begun ≡ self.old.begun }
-        ensures purged { ArePurged self.old.begun.value.world self.old.holdings.world
-            self.new.holdings.world budget }
+        ensures purged { ArePurged self.old.begun self.old.world self.new.world budget }
         ensures marks { OnlyMarks budget self.old self.new }
         ensures looked { self.new.progress.looked ≤ self.old.progress.looked + budget }
         ensures rises { self.old.progress.looked ≤ self.new.progress.looked }
         ensures working { result ≡ false
             → self.new.progress.looked ≡ self.old.progress.looked + budget }
-        ensures gone { result ≡ true → NoneLeft self.old.begun.value.world self.new.holdings.world }
+        ensures gone { result ≡ true → NoneLeft self.old.begun self.new.world }
         ensures counted { result ≡ true
-            → IsGarbageCount self.old.begun.value.world self.new.progress.reclaimed }
+            → IsGarbageCount self.old.begun self.new.progress.reclaimed }
     {
         // If nothing is in flight and no embryo waits, a table holds each file: nothing is garbage.
         if self.holdings.is_calm() {
@@ -85,24 +55,21 @@ impl Collector {
     /// Returns how many, 0 where the pass is over.
     #[inline(always)]
     fn do_unit(&mut self, left: u32) -> u32
-        requires kept { KeepsPass self.old }
         requires running { is_running self.old.progress.stage ≡ true }
-        requires sound { IsSound self.old.holdings.world }
+        requires sound { IsSound self.old.world }
         requires some { 0 < left }
-        ensures kept { KeepsPass self.new }
         ensures running { is_running self.new.progress.stage ≡ true }
-        ensures sound { IsSound self.new.holdings.world }
-        ensures rows { self.new.holdings.rows ≡ self.old.holdings.rows }
-        ensures since { self.new.holdings.since ≡ self.old.holdings.since }
+        ensures sound { IsSound self.new.world }
+        ensures rows { self.new.rows ≡ self.old.rows }
+        ensures since { self.new.since ≡ self.old.since }
         ensures begun { self.new.begun ≡ self.old.begun }
         ensures few { result ≤ left }
-        ensures purged { ArePurged self.old.begun.value.world self.old.holdings.world
-            self.new.holdings.world result }
+        ensures purged { ArePurged self.old.begun self.old.world self.new.world result }
         ensures marks { OnlyMarks result self.old self.new }
         ensures looked { self.new.progress.looked ≡ self.old.progress.looked + result }
-        ensures gone { result ≡ 0 → NoneLeft self.old.begun.value.world self.new.holdings.world }
+        ensures gone { result ≡ 0 → NoneLeft self.old.begun self.new.world }
         ensures counted { result ≡ 0
-            → IsGarbageCount self.old.begun.value.world self.new.progress.reclaimed }
+            → IsGarbageCount self.old.begun self.new.progress.reclaimed }
     {
         // If each live file of the begin is marked, none of its garbage is live.
         if self.holdings.files().are_marked() {
@@ -121,16 +88,15 @@ impl Collector {
     /// scan: then sweeping begins.
     #[inline(always)]
     fn mark_unit(&mut self, left: u32) -> u32
-        requires kept { KeepsPass self.old }
         requires marking { self.old.progress.stage ≡ stage.Marking }
-        requires sound { IsSound self.old.holdings.world }
+        requires sound { IsSound self.old.world }
         requires some { 0 < left }
-        ensures kept { KeepsPass self.new }
-        ensures holdings { self.new.holdings
-            ≡ record self.old.holdings { marks = self.new.holdings.marks } }
-        ensures marks { MarksByLooks self.old.holdings.world result self.old.holdings.marks
-            self.new.holdings.marks }
-        ensures begun { self.new.begun ≡ self.old.begun }
+        ensures frame { self.new ≡ record self.old {
+          marks = self.new.marks;
+          pass = self.new.pass;
+          progress = self.new.progress;
+        } }
+        ensures marks { MarksByLooks self.old.world result self.old.marks self.new.marks }
         ensures few { result ≤ left }
         ensures looked { self.new.progress.looked ≡ self.old.progress.looked + result }
         ensures went { 0 < result → self.new.progress.stage ≡ stage.Marking }
@@ -151,22 +117,19 @@ impl Collector {
 
     /// Does one unit of sweeping. Returns how many it did, 0 where all is swept.
     fn sweep_unit(&mut self) -> u32
-        requires kept { KeepsPass self.old }
         requires sweeping { self.old.progress.stage ≡ stage.Sweeping }
-        requires sound { IsSound self.old.holdings.world }
-        ensures kept { KeepsPass self.new }
-        ensures sound { IsSound self.new.holdings.world }
-        ensures rows { self.new.holdings.rows ≡ self.old.holdings.rows }
-        ensures since { self.new.holdings.since ≡ self.old.holdings.since }
+        requires sound { IsSound self.old.world }
+        ensures sound { IsSound self.new.world }
+        ensures rows { self.new.rows ≡ self.old.rows }
+        ensures since { self.new.since ≡ self.old.since }
         ensures begun { self.new.begun ≡ self.old.begun }
         ensures stage { self.new.progress.stage ≡ stage.Sweeping }
         ensures few { result ≤ 1 }
-        ensures purged { ArePurged self.old.begun.value.world self.old.holdings.world
-            self.new.holdings.world result }
+        ensures purged { ArePurged self.old.begun self.old.world self.new.world result }
         ensures looked { self.new.progress.looked ≡ self.old.progress.looked + result }
-        ensures gone { result ≡ 0 → NoneLeft self.old.begun.value.world self.new.holdings.world }
+        ensures gone { result ≡ 0 → NoneLeft self.old.begun self.new.world }
         ensures counted { result ≡ 0
-            → IsGarbageCount self.old.begun.value.world self.new.progress.reclaimed }
+            → IsGarbageCount self.old.begun self.new.progress.reclaimed }
     {
         let Some((file, at)) = self.next_from(self.progress.swept) else {
             return 0;
@@ -180,11 +143,11 @@ impl Collector {
     /// the position behind it in the order.
     #[inline(always)]
     fn next_from(&self, from: u64) -> Option<(FileRef, usize)>
-        ensures live { IfSome result (λ f. IsLive self.now.holdings.world f.0) }
-        ensures within { IfSome result (λ f. (from ≤ f.0) × (f.0 < self.now.holdings.marks.bound)) }
-        ensures least { IfSome result (λ f. NoneLive self.now.holdings.world from f.0) }
+        ensures live { IfSome result (λ f. IsLive self.now.world f.0) }
+        ensures within { IfSome result (λ f. (from ≤ f.0) × (f.0 < self.now.marks.bound)) }
+        ensures least { IfSome result (λ f. NoneLive self.now.world from f.0) }
         ensures none { IfNone result
-            (NoneLive self.now.holdings.world from self.now.holdings.marks.bound) }
+            (NoneLive self.now.world from self.now.marks.bound) }
     {
         let bound = self.holdings.files().bound();
         if from >= bound.0 {
@@ -202,24 +165,22 @@ impl Collector {
     /// units are left. Returns how many units that was.
     #[inline(always)]
     fn visit(&mut self, file: &FileRef, left: u32) -> u32
-        requires kept { KeepsPass self.old }
         requires marking { self.old.progress.stage ≡ stage.Marking }
         requires some { 0 < left }
-        requires live { IsLive self.old.holdings.world file.now }
+        requires live { IsLive self.old.world file.now }
         requires within { (self.old.progress.visited ≤ file.now)
-            × (file.now < self.old.holdings.marks.bound) }
-        requires least { NoneLive self.old.holdings.world self.old.progress.visited file.now }
-        ensures kept { KeepsPass self.new }
-        ensures holdings { self.new.holdings
-            ≡ record self.old.holdings { marks = self.new.holdings.marks } }
-        ensures marks { MarksByLooks self.old.holdings.world 1 self.old.holdings.marks
-            self.new.holdings.marks }
-        ensures begun { self.new.begun ≡ self.old.begun }
-        ensures units { (0 < result) × (result ≤ left) }
-        ensures progress { self.new.progress ≡ record self.old.progress {
-          visited = file.now + 1;
-          looked = self.old.progress.looked + result;
+            × (file.now < self.old.marks.bound) }
+        requires least { NoneLive self.old.world self.old.progress.visited file.now }
+        ensures frame { self.new ≡ record self.old {
+          marks = self.new.marks;
+          pass = self.new.pass;
+          progress = record self.old.progress {
+            visited = file.now + 1;
+            looked = self.old.progress.looked + result;
+          };
         } }
+        ensures marks { MarksByLooks self.old.world 1 self.old.marks self.new.marks }
+        ensures units { (0 < result) × (result ≤ left) }
     {
         // Files' numbers are below the next one: that is what a whole world says of them.
         self.holdings.lemma_is_whole();
@@ -233,18 +194,15 @@ impl Collector {
     /// Scans a marked file, if one is to be scanned. Returns whether there was one.
     #[inline(always)]
     fn scan(&mut self) -> bool
-        requires kept { KeepsPass self.old }
         requires marking { self.old.progress.stage ≡ stage.Marking }
-        ensures kept { KeepsPass self.new }
-        ensures holdings { self.new.holdings
-            ≡ record self.old.holdings { marks = self.new.holdings.marks } }
-        ensures marks { MarksByLooks self.old.holdings.world 1 self.old.holdings.marks
-            self.new.holdings.marks }
-        ensures begun { self.new.begun ≡ self.old.begun }
-        ensures progress { result ≡ true → self.new.progress
-            ≡ record self.old.progress { looked = self.old.progress.looked + 1 } }
+        ensures scans { result ≡ true → self.new ≡ record self.old {
+          marks = self.new.marks;
+          pass = self.new.pass;
+          progress = record self.old.progress { looked = self.old.progress.looked + 1 };
+        } }
+        ensures marks { MarksByLooks self.old.world 1 self.old.marks self.new.marks }
         ensures none { result ≡ false → (self.new ≡ self.old)
-            × ((f : ℕ) → is_grey self.old.holdings.marks f ≡ false) }
+            × ((f : ℕ) → is_grey self.old.marks f ≡ false) }
     {
         // A held file is live, as in each well-formed world.
         self.holdings.lemma_is_whole();
@@ -258,22 +216,19 @@ impl Collector {
     /// Sweeps a file: if it is not marked, empties its queue and its backlog, and frees the files
     /// that are then unreferenced.
     fn sweep(&mut self, file: &FileRef)
-        requires kept { KeepsPass self.old }
         requires sweeping { self.old.progress.stage ≡ stage.Sweeping }
-        requires sound { IsSound self.old.holdings.world }
-        requires live { IsLive self.old.holdings.world file.now }
+        requires sound { IsSound self.old.world }
+        requires live { IsLive self.old.world file.now }
         requires within { (self.old.progress.swept ≤ file.now)
-            × (file.now < self.old.holdings.marks.bound) }
-        requires least { NoneLive self.old.holdings.world self.old.progress.swept file.now }
-        ensures kept { KeepsPass self.new }
-        ensures sound { IsSound self.new.holdings.world }
-        ensures rows { self.new.holdings.rows ≡ self.old.holdings.rows }
-        ensures since { self.new.holdings.since ≡ self.old.holdings.since }
+            × (file.now < self.old.marks.bound) }
+        requires least { NoneLive self.old.world self.old.progress.swept file.now }
+        ensures sound { IsSound self.new.world }
+        ensures rows { self.new.rows ≡ self.old.rows }
+        ensures since { self.new.since ≡ self.old.since }
         ensures begun { self.new.begun ≡ self.old.begun }
         ensures stage { self.new.progress.stage ≡ stage.Sweeping }
         ensures looked { self.new.progress.looked ≡ self.old.progress.looked + 1 }
-        ensures purged { ArePurged self.old.begun.value.world self.old.holdings.world
-            self.new.holdings.world 1 }
+        ensures purged { ArePurged self.old.begun self.old.world self.new.world 1 }
     {
         self.progress.swept = file.ino().0 + 1;
         self.progress.looked += 1;
@@ -281,6 +236,6 @@ impl Collector {
             return;
         }
         self.holdings.empty(file);
-        self.release();
+        self.free_unreferenced();
     }
 }

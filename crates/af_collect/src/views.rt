@@ -15,7 +15,7 @@ impl Store {
         ensures marks { result.now.marks ≡ self.now.marks }
         ensures since { result.now.since ≡ self.now.since }
     {
-        &self.collector.holdings
+        &self.holdings
     }
 
     /// Does nothing at run time. Shows that a file in a table is no garbage of the begin of a
@@ -24,6 +24,6 @@ impl Store {
         ensures { (f : ℕ) → InTable self.now.world f → NotBegunGarbage self.now.pass f }
     {
         // The invariant says it: reading a field gives it to the prover.
-        let _collector = &self.collector;
+        let _progress = &self.progress;
     }
 }

@@ -1,4 +1,4 @@
-use Rattle.std.proofs.Common.{rules, ◌≤◌, ◌<◌, ◌+◌, List, ℕ, drop, length, take, sym, ap, ◌∙◌, subst}
+use Rattle.std.proofs.Common.{rules, ◌≤◌, ◌<◌, ◌+◌, List, ℕ, drop, length, take, ap, ◌∙◌, subst}
 use Rattle.af_base.specs.Places.{attached_in, queue_at}
 use Rattle.af_collect.specs.HoldingsView.{HoldingsView}
 use Rattle.af_desc.specs.FilesView.{FilesView}

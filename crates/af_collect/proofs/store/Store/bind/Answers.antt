@@ -8,9 +8,9 @@ use Rattle.af_collect.specs.contracts.holdings.Holdings.{the_view}
 use Rattle.af_collect.proofs.StoreInvariant.{BothInvariants, seen-world, stands-socket, stood}
 use Rattle.af_collect.proofs.store.Store.bind.Goals as goal
 
-both : (c : goal.After-bind) → BothInvariants c.self.inside.collector c.holdings.inside.procs c.bind.new.self c.holdings.inside.ledger
+both : (c : goal.After-bind) → BothInvariants c.self.inside c.holdings.inside.procs c.bind.new.self c.holdings.inside.ledger
 both c =
-    let p = c.self.inside.collector in
+    let p = c.self.inside in
     let h = c.holdings.inside in
     let w = (the_view h).world in
     let back = seen-world p h _ c.holdings.view_is c.self.view_is in

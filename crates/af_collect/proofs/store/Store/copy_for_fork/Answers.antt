@@ -42,7 +42,7 @@ pub ref_table-requires : goal.ref_table-requires
 ref_table-requires c =
     let h = c.holdings.inside in
     let w = (the_view h).world in
-    let back = seen-world c.self.inside.collector c.holdings.inside _ c.holdings.view_is c.self.view_is in
+    let back = seen-world c.self.inside c.holdings.inside _ c.holdings.view_is c.self.view_is in
     let room = subst (λ (v : World). is_at_process_limit v ≡ false) back c.requires.room in
     let there = subst (λ (v : World). IsTrue (map.contains_key v.processes c.args.pid)) back c.requires.there in
     let e = c.in_ok-child.ensures in
@@ -52,15 +52,15 @@ ref_table-requires c =
     let at = process-there w c.args.pid (ap not there) ∙ ap Some (sym is) in
     (w, h.ledger, c.args.pid, at, joins-copy w c.args.pid q (kept_of h.files.counts h.ledger) room there is c.holdings.invariant)
 
-both : (c : goal.After-ref_table) → BothInvariants c.self.inside.collector c.copy_for_fork.new.self c.ref_table.new.files c.holdings.inside.ledger
+both : (c : goal.After-ref_table) → BothInvariants c.self.inside c.copy_for_fork.new.self c.ref_table.new.files c.holdings.inside.ledger
 both c =
-    let p = c.self.inside.collector in
+    let p = c.self.inside in
     let h = c.holdings.inside in
     let w = (the_view h).world in
     let begun = p.begun.value.world in
     let pid = c.args.pid in
     let was = stood p h c.holdings.view_is c.holdings.invariant c.self.invariant in
-    let back = seen-world c.self.inside.collector c.holdings.inside _ c.holdings.view_is c.self.view_is in
+    let back = seen-world c.self.inside c.holdings.inside _ c.holdings.view_is c.self.view_is in
     let room = subst (λ (v : World). is_at_process_limit v ≡ false) back c.requires.room in
     let there = subst (λ (v : World). IsTrue (map.contains_key v.processes pid)) back c.requires.there in
     let child = process_at w pid in

@@ -13,12 +13,12 @@ use Rattle.af_collect.proofs.store.Store.listen.Goals as goal
 pub listen-requires-clause-nobody : goal.listen-requires-clause-nobody
 listen-requires-clause-nobody c =
     let s = c.args.socket.now in
-    let back = seen-world c.self.inside.collector c.holdings.inside _ c.holdings.view_is c.self.view_is in
+    let back = seen-world c.self.inside c.holdings.inside _ c.holdings.view_is c.self.view_is in
     idle-alone (the_view c.holdings.inside).world s c.holdings.invariant.within (subst (λ (v : World). IfSome (socket_at v s) (λ x. x.state ≡ state.Idle)) back c.requires.idle)
 
-both : (c : goal.After-listen) → BothInvariants c.self.inside.collector c.holdings.inside.procs c.listen.new.self c.holdings.inside.ledger
+both : (c : goal.After-listen) → BothInvariants c.self.inside c.holdings.inside.procs c.listen.new.self c.holdings.inside.ledger
 both c =
-    let p = c.self.inside.collector in
+    let p = c.self.inside in
     let h = c.holdings.inside in
     let w = (the_view h).world in
     let back = seen-world p h _ c.holdings.view_is c.self.view_is in

@@ -12,7 +12,7 @@ use Rattle.af_collect.proofs.store.Store.make_embryo.Goals as goal
 -- The listener stays as it is while the embryo is made.
 pub enqueue-requires : goal.enqueue-requires
 enqueue-requires c =
-    let p = c.self.inside.collector in
+    let p = c.self.inside in
     let h = c.holdings.inside in
     let s = c.args.client.now in
     let l = c.args.listener.now in
@@ -22,9 +22,9 @@ enqueue-requires c =
     let same = ap (λ (fs : FilesView). socket_in fs.files l) c.in_ok-embryo.ensures.ok ∙ ap (option_and_then socket_of) (stays p h was c.args.kind s l asked) in
     subst (λ o. IfSome o (λ x. length x.backlog < room_of x.state)) (sym same) asked.4
 
-both : (c : goal.After-enqueue) → BothInvariants c.self.inside.collector c.holdings.inside.procs c.enqueue.new.self c.holdings.inside.ledger
+both : (c : goal.After-enqueue) → BothInvariants c.self.inside c.holdings.inside.procs c.enqueue.new.self c.holdings.inside.ledger
 both c =
-    let p = c.self.inside.collector in
+    let p = c.self.inside in
     let h = c.holdings.inside in
     let s = c.args.client.now in
     let l = c.args.listener.now in

@@ -6,9 +6,9 @@ use Rattle.af_collect.proofs.SocketStates.{exact-idle}
 use Rattle.af_collect.proofs.StoreInvariant.{BothInvariants, stood}
 use Rattle.af_collect.proofs.store.Store.make_sock.Goals as goal
 
-both : (c : goal.After-install) → BothInvariants c.self.inside.collector c.install.new.self c.make_sock.new.self c.holdings.inside.ledger
+both : (c : goal.After-install) → BothInvariants c.self.inside c.install.new.self c.make_sock.new.self c.holdings.inside.ledger
 both c =
-    let p = c.self.inside.collector in
+    let p = c.self.inside in
     let h = c.holdings.inside in
     stands-made p h (stood p h c.holdings.view_is c.holdings.invariant c.self.invariant) _ c.holdings.view_is c.self.view_is c.args.pid c.args.fd (c.requires.full, c.requires.there, c.requires.limit, c.requires.free)
     (AsSocket (idle_socket c.args.kind)) refl (exact-idle _ c.args.kind _) c.install.new.self _ c.install.ensures.processes c.install.ensures.next c.in_ok-file.ensures.ino _ c.in_ok-file.ensures.ok

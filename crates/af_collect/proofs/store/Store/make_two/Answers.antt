@@ -4,9 +4,9 @@ use Rattle.af_collect.proofs.NewFiles.{stands-pair}
 use Rattle.af_collect.proofs.StoreInvariant.{BothInvariants, stood}
 use Rattle.af_collect.proofs.store.Store.make_two.Goals as goal
 
-both : (c : goal.After-install-2) → BothInvariants c.self.inside.collector c.install-2.new.self c.make_two.new.self c.holdings.inside.ledger
+both : (c : goal.After-install-2) → BothInvariants c.self.inside c.install-2.new.self c.make_two.new.self c.holdings.inside.ledger
 both c =
-    let p = c.self.inside.collector in
+    let p = c.self.inside in
     let h = c.holdings.inside in
     let pid = c.args.pid in
     let lower = c.args.lower in

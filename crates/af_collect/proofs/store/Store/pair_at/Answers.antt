@@ -25,9 +25,9 @@ abbrev paired_at : SockType → ℕ → ℕ → ℕ → World → World
 paired_at kind p lower higher w = install (install (with_pair w kind) p lower w.next_ino) p higher (w.next_ino + 1)
 
 -- Without memory for the two.
-neither : (c : In_err-first) → BothInvariants c.self.inside.collector (with_process c.holdings.inside.procs c.args.pid c.in_ok-process.process.now) c.make_two.new.self c.holdings.inside.ledger
+neither : (c : In_err-first) → BothInvariants c.self.inside (with_process c.holdings.inside.procs c.args.pid c.in_ok-process.process.now) c.make_two.new.self c.holdings.inside.ledger
 neither c =
-    let p = c.self.inside.collector in
+    let p = c.self.inside in
     let h = c.holdings.inside in
     stands-lent p h c.args.pid c.in_ok-process.process.now c.in_ok-process.ensures.there _ c.in_err-first.ensures.err (stood p h c.holdings.view_is c.holdings.invariant c.self.invariant)
 
@@ -38,13 +38,13 @@ pub invariant_of-self-in_err-first : goal.invariant_of-self-in_err-first
 invariant_of-self-in_err-first c = (neither (goal.at.invariant_of-self-in_err-first c).In_err-first).1
 
 pub returns-in_err-first-clause-err : goal.returns-in_err-first-clause-err
-returns-in_err-first-clause-err c = error-lent c.self.inside.collector c.holdings.inside c.args.pid c.in_ok-process.process.now c.in_ok-process.ensures.there _ c.in_err-first.ensures.err c.from_residual-in_err-first.result _ c.holdings.view_is c.self.view_is
+returns-in_err-first-clause-err c = error-lent c.self.inside c.holdings.inside c.args.pid c.in_ok-process.process.now c.in_ok-process.ensures.there _ c.in_err-first.ensures.err c.from_residual-in_err-first.result _ c.holdings.view_is c.self.view_is
 
 -- The two descriptors are free.
 below : (c : In_ok-first) → AreFree c.in_ok-process.process.now.process (c.args.lower ∷ c.args.higher ∷ [])
 below c =
     let w = (the_view c.holdings.inside).world in
-    let back = seen-world c.self.inside.collector c.holdings.inside _ c.holdings.view_is c.self.view_is in
+    let back = seen-world c.self.inside c.holdings.inside _ c.holdings.view_is c.self.view_is in
     let lowest = subst (λ (v : World). c.args.lower ∷ c.args.higher ∷ [] ≡ lowest_free 2 (process_at v c.args.pid)) back c.requires.lowest in
     subst (λ q. AreFree q (c.args.lower ∷ c.args.higher ∷ [])) (ap (λ o. unwrap_or o no_process) c.in_ok-process.ensures.there) (subst (AreFree (process_at w c.args.pid)) (sym lowest) (free-lowest_free 2 (process_at w c.args.pid)))
 
@@ -78,16 +78,16 @@ written c =
     ∙ ap (λ t. change_at (installed higher (h.files.next + 1)) t pid) (back-changed (installed lower h.files.next) m pid q _ c.in_ok-process.ensures.there refl)
 
 -- The new sockets are at its descriptors.
-both : (c : After-install-2) → BothInvariants c.self.inside.collector (with_process c.holdings.inside.procs c.args.pid c.install-2.new.self) c.make_two.new.self c.holdings.inside.ledger
+both : (c : After-install-2) → BothInvariants c.self.inside (with_process c.holdings.inside.procs c.args.pid c.install-2.new.self) c.make_two.new.self c.holdings.inside.ledger
 both c =
-    let p = c.self.inside.collector in
+    let p = c.self.inside in
     let h = c.holdings.inside in
     stands-pair p h (stood p h c.holdings.view_is c.holdings.invariant c.self.invariant) _ c.holdings.view_is c.self.view_is c.args.kind c.args.pid c.args.lower c.args.higher (c.requires.full, c.requires.there, c.requires.lowest)
     (with_process h.procs c.args.pid c.install-2.new.self) (written c) refl _ c.in_ok-first.ensures.ok
 
 pub returns-clause-ok : goal.returns-clause-ok
 returns-clause-ok c =
-    let p = c.self.inside.collector in
+    let p = c.self.inside in
     let h = c.holdings.inside in
     let rows = (with_process h.procs c.args.pid c.install-2.new.self).rows in
     let marks = c.make_two.new.self.marks in

@@ -17,16 +17,16 @@ use Rattle.af_collect.specs.contracts.holdings.Holdings.{the_view}
 use Rattle.af_collect.proofs.StoreInvariant.{kept_socket, BothInvariants, seen-world, stood}
 use Rattle.af_collect.proofs.store.Store.put_embryo.Goals as goal
 
-both : (c : goal.After-enqueue) → BothInvariants c.self.inside.collector c.holdings.inside.procs c.enqueue.new.self c.holdings.inside.ledger
+both : (c : goal.After-enqueue) → BothInvariants c.self.inside c.holdings.inside.procs c.enqueue.new.self c.holdings.inside.ledger
 both c =
-    let p = c.self.inside.collector in
+    let p = c.self.inside in
     let h = c.holdings.inside in
     let w = (the_view h).world in
     let begun = p.begun.value.world in
     let s = c.args.listener.now in
     let f = c.args.embryo in
     let was = stood p h c.holdings.view_is c.holdings.invariant c.self.invariant in
-    let back = seen-world c.self.inside.collector c.holdings.inside _ c.holdings.view_is c.self.view_is in
+    let back = seen-world c.self.inside c.holdings.inside _ c.holdings.view_is c.self.view_is in
     let at = is-socket w s (subst (λ (v : World). is_none (socket_at v s) ≡ false) back c.requires.socket) in
     let live = subst (λ (v : World). IsLive v f) back c.requires.live in
     let none = subst (λ (v : World). waiting v f ≡ 0) back c.requires.new in

@@ -39,9 +39,9 @@ put c =
     (ap (λ l. keys_of l.users) (kept c) ∙ users-held_all m.user m.attached (kept_of h.files.counts h.ledger))
 
 -- Both invariants hold then.
-both : (c : goal.After-push) → BothInvariants c.self.inside.collector c.holdings.inside.procs c.push.new.self c.charge_message.new.ledger
+both : (c : goal.After-push) → BothInvariants c.self.inside c.holdings.inside.procs c.push.new.self c.charge_message.new.ledger
 both c =
-    let p = c.self.inside.collector in
+    let p = c.self.inside in
     let h = c.holdings.inside in
     let w = (the_view h).world in
     let begun = p.begun.value.world in
@@ -63,7 +63,7 @@ invariant_of-self c = (both c).1
 
 pub returns : goal.returns
 returns c =
-    let p = c.self.inside.collector in
+    let p = c.self.inside in
     let h = c.holdings.inside in
     let room = c.push.new.self.message_room in
     let marks = ap (λ v. v.marks) c.push.ensures ∙ ap (λ v. v.marks) c.charge_message.ensures.rest in

@@ -16,15 +16,15 @@ use Rattle.af_collect.specs.contracts.holdings.Holdings.{the_view}
 use Rattle.af_collect.proofs.StoreInvariant.{files_spawned, kept_tables, BothInvariants, both-same, seen-world, stood}
 use Rattle.af_collect.proofs.store.Store.spawn.Goals as goal
 
-both : (c : goal.After-spawn) → BothInvariants c.self.inside.collector c.spawn.new.self c.holdings.inside.files c.add_user.new.self
+both : (c : goal.After-spawn) → BothInvariants c.self.inside c.spawn.new.self c.holdings.inside.files c.add_user.new.self
 both c =
-    let p = c.self.inside.collector in
+    let p = c.self.inside in
     let h = c.holdings.inside in
     let w = (the_view h).world in
     let begun = p.begun.value.world in
     let a = c.args in
     let was = stood p h c.holdings.view_is c.holdings.invariant c.self.invariant in
-    let back = seen-world c.self.inside.collector c.holdings.inside _ c.holdings.view_is c.self.view_is in
+    let back = seen-world c.self.inside c.holdings.inside _ c.holdings.view_is c.self.view_is in
     let room = subst (λ (v : World). is_at_process_limit v ≡ false) back c.requires.room in
     let more = add_process w (started a.uid a.limit a.privileged) in
     let processes = c.spawn.ensures.processes ∙ (λ i. map.insert (c.room_to_spawn.ensures.processes i) (c.room_to_spawn.ensures.next i) (started a.uid a.limit a.privileged)) in

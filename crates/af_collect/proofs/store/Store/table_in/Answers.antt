@@ -16,9 +16,9 @@ use Rattle.af_collect.proofs.store.Store.table_in.Goals as goal
 pub hold-requires-clause-countable : goal.hold-requires-clause-countable
 hold-requires-clause-countable c = (can-hold-table (the_view c.holdings.inside).world c.args.file (kept_of c.holdings.inside.files.counts c.holdings.inside.ledger) c.holdings.invariant.within c.holdings.invariant.agrees).0
 
-both : (c : goal.After-install) → BothInvariants c.self.inside.collector c.install.new.self c.hold.new.self c.holdings.inside.ledger
+both : (c : goal.After-install) → BothInvariants c.self.inside c.install.new.self c.hold.new.self c.holdings.inside.ledger
 both c =
-    let p = c.self.inside.collector in
+    let p = c.self.inside in
     let h = c.holdings.inside in
     let w = (the_view h).world in
     let begun = p.begun.value.world in
@@ -26,7 +26,7 @@ both c =
     let fd = c.args.fd in
     let f = c.args.file in
     let was = stood p h c.holdings.view_is c.holdings.invariant c.self.invariant in
-    let back = seen-world c.self.inside.collector c.holdings.inside _ c.holdings.view_is c.self.view_is in
+    let back = seen-world c.self.inside c.holdings.inside _ c.holdings.view_is c.self.view_is in
     let can = subst (λ (v : World). CanInstall v pid fd) back (c.requires.there, c.requires.limit, c.requires.free) in
     let live = subst (λ (v : World). IsLive v f) back c.requires.live in
     let spared = subst (λ (t : StoreView). NotBegunGarbage t.pass f) (sym c.self.view_is) c.requires.spared in

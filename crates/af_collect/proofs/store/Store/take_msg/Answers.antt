@@ -17,17 +17,17 @@ use Rattle.af_collect.proofs.StoreInvariant.{kept_taken, BothInvariants, both-sa
 use Rattle.af_collect.proofs.store.Store.take_msg.Goals as goal
 
 pub receive_all-requires-clause-there : goal.receive_all-requires-clause-there
-receive_all-requires-clause-there c = (receives-within c.self.inside.collector c.holdings.inside _ c.holdings.view_is c.self.view_is c.args.socket.now c.args.max c.args.pid c.args.fds.now c.requires.can).1
+receive_all-requires-clause-there c = (receives-within c.self.inside c.holdings.inside _ c.holdings.view_is c.self.view_is c.args.socket.now c.args.max c.args.pid c.args.fds.now c.requires.can).1
 
 pub receive_all-requires-clause-fits : goal.receive_all-requires-clause-fits
-receive_all-requires-clause-fits c = files-fit c.self.inside.collector c.holdings.inside _ c.holdings.view_is c.self.view_is c.args.socket.now c.args.max c.args.pid c.args.fds.now c.requires.can
+receive_all-requires-clause-fits c = files-fit c.self.inside c.holdings.inside _ c.holdings.view_is c.self.view_is c.args.socket.now c.args.max c.args.pid c.args.fds.now c.requires.can
     c.holdings.invariant _ (ap (λ v. v.counts) c.in_ok-take.ensures.ok) _ (c.attached-attached.ensures.value ∙ ap (λ t. t.message.attached) c.in_ok-take.ensures.taken) c.attached-attached.ensures.bound
 
 pub receive_all-requires-clause-queued : goal.receive_all-requires-clause-queued
 receive_all-requires-clause-queued c =
     let h = c.holdings.inside in
     let w = (the_view h).world in
-    let r = receives-within c.self.inside.collector c.holdings.inside _ c.holdings.view_is c.self.view_is c.args.socket.now c.args.max c.args.pid c.args.fds.now c.requires.can in
+    let r = receives-within c.self.inside c.holdings.inside _ c.holdings.view_is c.self.view_is c.args.socket.now c.args.max c.args.pid c.args.fds.now c.requires.can in
     let taken = c.in_ok-take.ensures.taken in
     let user = c.user.ensures ∙ ap (λ t. t.message.user) taken in
     let attached = c.attached-attached.ensures.value ∙ ap (λ t. t.message.attached) taken in
@@ -64,9 +64,9 @@ received c =
     world-is _ (with_socket v s (received_from c.args.max)) processes files next c.receive_all.ensures.next users ∙ taken_queue v s c.args.max
     ∙ sym (install-filled (with_queue w s t.rest) c.args.pid (zip c.args.fds.now t.attached))
 
-both : (c : goal.After-shade_taken) → BothInvariants c.self.inside.collector c.receive_all.new.procs c.shade_taken.new.files c.receive_all.new.ledger
+both : (c : goal.After-shade_taken) → BothInvariants c.self.inside c.receive_all.new.procs c.shade_taken.new.files c.receive_all.new.ledger
 both c =
-    let p = c.self.inside.collector in
+    let p = c.self.inside in
     let h = c.holdings.inside in
     let w = (the_view h).world in
     let k = kept_of h.files.counts h.ledger in
@@ -75,14 +75,14 @@ both c =
     let pid = c.args.pid in
     let fds = c.args.fds.now in
     let was = stood p h c.holdings.view_is c.holdings.invariant c.self.invariant in
-    let r = receives-within c.self.inside.collector c.holdings.inside _ c.holdings.view_is c.self.view_is c.args.socket.now c.args.max c.args.pid c.args.fds.now c.requires.can in
+    let r = receives-within c.self.inside c.holdings.inside _ c.holdings.view_is c.self.view_is c.args.socket.now c.args.max c.args.pid c.args.fds.now c.requires.can in
     let t = taken_at w s max in
     let files = c.attached-attached.ensures.value ∙ ap (λ o. o.message.attached) c.in_ok-take.ensures.taken in
     let before = ap (λ v. v.marks) c.receive_all.ensures.rest ∙ ap (λ v. v.marks) c.in_ok-take.ensures.ok in
     let marks = ap (λ v. v.marks) c.shade_taken.ensures ∙ (λ i. shaded_in p.progress.stage (files i) (before i)) in
     both-same _ (install_all (with_queue w s t.rest) pid (zip fds t.attached)) _ _ _ _ (received c) (left c) marks
     (exact-same _ _ _ _ (install-filled (with_queue w s t.rest) pid (zip fds t.attached)) refl (exact-received w s max k was.0 c.requires.can.some r.0 pid fds r.1 r.2))
-    (kept_taken was.0 s max r.0 p.progress.looked pid fds (spared-within c.self.inside.collector c.holdings.inside _ c.holdings.view_is c.self.view_is c.args.socket.now c.args.max c.args.pid c.args.fds.now c.requires.can) r.1 r.2 was.1)
+    (kept_taken was.0 s max r.0 p.progress.looked pid fds (spared-within c.self.inside c.holdings.inside _ c.holdings.view_is c.self.view_is c.args.socket.now c.args.max c.args.pid c.args.fds.now c.requires.can) r.1 r.2 was.1)
 
 pub invariant_of-holdings-2 : goal.invariant_of-holdings-2
 invariant_of-holdings-2 c = (both c).0
@@ -92,7 +92,7 @@ invariant_of-self-2 c = (both c).1
 
 pub returns-clause-world : goal.returns-clause-world
 returns-clause-world c =
-    let p = c.self.inside.collector in
+    let p = c.self.inside in
     let h = c.holdings.inside in
     let since = ap (λ v. v.since) c.shade_taken.ensures ∙ ap (λ v. v.since) c.receive_all.ensures.rest ∙ ap (λ v. v.since) c.in_ok-take.ensures.ok in
     (λ i. shown p (record { world = received c i; rows = c.receive_all.ensures.rows i; message_room = c.shade_taken.new.files.message_room; marks = c.shade_taken.new.files.marks; since = since i }))

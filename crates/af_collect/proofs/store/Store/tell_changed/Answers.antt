@@ -2,9 +2,9 @@ use Rattle.std.proofs.Common.{true}
 use Rattle.af_collect.proofs.StoreInvariant.{BothInvariants, stands-either, stood}
 use Rattle.af_collect.proofs.store.Store.tell_changed.Goals as goal
 
-both : (c : goal.After-tell_changed) → BothInvariants c.self.inside.collector c.holdings.inside.procs c.tell_changed.new.self c.holdings.inside.ledger
+both : (c : goal.After-tell_changed) → BothInvariants c.self.inside c.holdings.inside.procs c.tell_changed.new.self c.holdings.inside.ledger
 both c =
-    let p = c.self.inside.collector in
+    let p = c.self.inside in
     let h = c.holdings.inside in
     let was = stood p h c.holdings.view_is c.holdings.invariant c.self.invariant in
     stands-either c.tell_changed.result p h _ c.tell_changed.ensures.err was (record h.files { since = record { changed = true; released = h.files.since.released; files = h.files.files; next = h.files.next } }) c.tell_changed.ensures.ok was
