@@ -89,7 +89,7 @@ def count(program: str, before: List[str], lines: List[str]) -> float:
 
 
 def most_closed(pid: int, files: int) -> List[str]:
-    """Lines that close three of four files: once their order is packed, no place in it can be computed from a number."""
+    """Lines that close three of four files. Once their order is packed, no number tells a place in it."""
     return [f"{pid} close {fd}" for fd in range(files) if fd % 4]
 
 

@@ -46,7 +46,10 @@ class Program:
         how = {"stdout": subprocess.PIPE, "stderr": subprocess.PIPE, **streams}
         if "stdin" not in how:
             how["input"] = script
-        ended = subprocess.run([self.path, *words], check=False, timeout=timeout, **how)
+        try:
+            ended = subprocess.run([self.path, *words], check=False, timeout=timeout, **how)
+        except subprocess.TimeoutExpired:
+            return Answer(-1, b"", b"it was stopped after %d seconds" % timeout)
         return Answer(ended.returncode, ended.stdout or b"", ended.stderr)
 
     def check(self, name: str, line: str, script: bytes, wanted: Answer) -> Check:
@@ -536,11 +539,9 @@ pass 1 reclaimed 0
 EIDLE
 """
 
-# A million passes over as many files as may be live, none of them in flight. They take a second; with a begin that looks
-# at each file, minutes: then the run is stopped.
-CONSTANT_BEGINS = (
-    "".join(f"spawn 1000 1024\n{1_024 * f'{pid} open{chr(10)}'}" for pid in range(1, 65)) + 1_000_000 * "pass\n"
-)
+# A million passes over as many files as may be live, none of them in flight. They take a second; with a begin that
+# looks at each file, minutes: then the run is stopped.
+CONSTANT_BEGINS = opens(range(1, 65), 1_024)[0] + 1_000_000 * "pass\n"
 BEGINS = "pass 1000000 reclaimed 0\n"
 
 LONG_SCRIPTS = [
@@ -552,6 +553,7 @@ LONG_SCRIPTS = [
     ("a pass over all files", FULL_PASS, PASS),
     ("begins over all files", CONSTANT_BEGINS, BEGINS),
 ]
+
 
 def long_scripts(program: Program) -> Iterator[Check]:
     """Each is run to its end, and its last replies are these."""
@@ -596,9 +598,7 @@ def a_few_at_once(program: Program) -> Iterator[Check]:
 
 # Behind plain files are a socket that is garbage, in its own queue, and its peer. A pass begins.
 PLAIN_FILES = 20_000
-GARBAGE_BEHIND = (
-    opens(range(1, 21), 1_000)[0] + "20 pair seqpacket\n20 send 1001 x 1000\n20 close 1000\nbegin\n"
-)
+GARBAGE_BEHIND = opens(range(1, 21), 1_000)[0] + "20 pair seqpacket\n20 send 1001 x 1000\n20 close 1000\nbegin\n"
 
 
 def units_are_counted(program: Program) -> Iterator[Check]:
