@@ -28,9 +28,11 @@ import os
 import pickle
 import sys
 import time
+import traceback
 from collections import Counter
 from concurrent.futures import ProcessPoolExecutor
 from importlib.machinery import SourceFileLoader
+from importlib.util import module_from_spec, spec_from_loader
 from itertools import count
 from multiprocessing import get_context
 from random import Random
@@ -45,7 +47,9 @@ from kernel_processes import enter_namespace, why_not  # noqa: E402
 from kernel_walk import Outcome, Played, Script, played  # noqa: E402
 from plain_engine import Engine, Event  # noqa: E402
 
-WALKS = SourceFileLoader("walks", f"{ROOT}/tools/walks").load_module()
+LOADER = SourceFileLoader("walks", f"{ROOT}/tools/walks")
+WALKS = module_from_spec(spec_from_loader("walks", LOADER))
+LOADER.exec_module(WALKS)
 MIXES = "lively", "cramped", "curious", "cycles"
 # The kinds of events of the last mix.
 CYCLING = "spawn fork exit open dup dup2 socket recv peek" + " pair close close send send" * 4
@@ -109,15 +113,20 @@ def isolated(script: Script, first_user: int) -> Outcome:
     reads, writes = os.pipe()
     child = os.fork()
     if not child:
-        os.close(reads)
-        with open(writes, "wb") as it:
-            enter_namespace()
-            pickle.dump(played(script, first_user), it)
+        try:
+            os.close(reads)
+            with open(writes, "wb") as it:
+                enter_namespace()
+                pickle.dump(played(script, first_user), it)
+        except BaseException:
+            traceback.print_exc()
+            os._exit(1)
         os._exit(0)
     os.close(writes)
     with open(reads, "rb") as it:
         data = it.read()
-    os.waitpid(child, 0)
+    if os.waitpid(child, 0)[1]:
+        raise ChildProcessError("the process of a walk failed, as its own message says")
     return pickle.loads(data)
 
 
