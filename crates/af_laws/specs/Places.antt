@@ -45,8 +45,8 @@ abbrev pub UninstallCounts : Type 0
 UninstallCounts = (w : World) (p n g f : ℕ) → table_at w p n ≡ Some g
     → refs (uninstall w p n) f + one f g ≡ refs w f
 
--- A dup2 to an open descriptor lowers the count of the old file by one, raises that of the new one
--- by one, and keeps all others (dup2(2)).
+-- A dup2 to an open descriptor lowers the count of the old file by one, and raises that of the new
+-- one by one. It keeps all others (dup2(2)).
 abbrev pub ReplaceCounts : Type 0
 ReplaceCounts = (w : World) (p n g h f : ℕ) → table_at w p n ≡ Some h
     → refs (install w p n g) f + one f h ≡ refs w f + one f g

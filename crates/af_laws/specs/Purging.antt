@@ -70,7 +70,7 @@ IsSlice (event.Slice b) = Unit {0}
 IsSlice event.Pass = ⊥
 
 -- A begin, and slices with no steps between them, the last of them done, are a whole pass, however
--- they are cut: it may have the same reply, and lead to the same machine.
+-- they are cut. It may have the same reply, and lead to the same machine.
 abbrev pub SlicesAreAPass : Type 0
 SlicesAreAPass = (old new : Machine) (slices : List RunEntry) (started b pass count : ℕ)
     → IsSettled old.world → All (λ e. IsSlice e.0) slices

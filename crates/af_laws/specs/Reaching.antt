@@ -38,8 +38,8 @@ SendKeepsReached =
 abbrev pub ReachedIsHeld : Type 0
 ReachedIsHeld = (w : World) (f : ℕ) → Reached w f → ¬ (Unheld w f)
 
--- Live files that no table holds, and that only they themselves hold, are garbage: a listener in
--- the queue of its own embryo, and the embryo in its backlog (net/unix/garbage.c).
+-- Live files that no table holds, and that only they themselves hold, are garbage. An example is a
+-- listener in the queue of its own embryo, with the embryo in its backlog (net/unix/garbage.c).
 abbrev pub GroupsOfTheirOwnAreGarbage : Type 0
 GroupsOfTheirOwnAreGarbage = (w : World) (group : ℕ → Bool)
     → ((f : ℕ) → group f ≡ true → IsLive w f × (¬ (InTable w f)))

@@ -39,9 +39,9 @@ abbrev pub Dup2ToItselfChangesNothing : Type 0
 Dup2ToItselfChangesNothing = (old new : World) (p n : ℕ) (r : Reply) → IsSettled old
     → ProcessStep old p (step.Dup2 n n) r new → new ≡ old
 
--- A send that nothing refuses is charged to the user of the process that sends, a place for each
--- number that it names, repeats included, and to nobody else (unix(7), ETOOMANYREFS; whom it counts
--- is this project's profile).
+-- A send that nothing refuses is charged to the user of the process that sends, and to nobody else.
+-- The charge is a place for each number that it names, repeats included (unix(7), ETOOMANYREFS;
+-- whom it counts is this project's profile).
 abbrev pub SendIsChargedToItsSender : Type 0
 SendIsChargedToItsSender = (w : World) (p n u : ℕ) (bytes attach : List ℕ) → IsWhole w
     → refusal w p (step.Send n bytes attach) ≡ None

@@ -82,7 +82,7 @@ takes kind (n ∷ ns) q = let first = take_from kind q n
       rest = others.rest;
     }
 
--- Receives from a stream lose no byte and give none twice, however many bytes each asks for: what
+-- Receives from a stream lose no byte and give none twice, however many bytes each asks for. What
 -- they took and what is left are what was there.
 abbrev pub ReceivesKeepBytes : Type 0
 ReceivesKeepBytes = (ns : List ℕ) (q : List Message) →
@@ -96,7 +96,7 @@ ReceivesKeepFiles = (kind : SockType) (ns : List ℕ) (q : List Message) → Hav
     all.attached ++ attached_in all.rest ≡ attached_in q
 
 -- If each message of a stream has a byte, one receive equals as many receives of one byte as it
--- took bytes: they give the same bytes and files, and leave the same queue.
+-- took bytes. They give the same bytes and files, and leave the same queue.
 abbrev pub OneByteAtATime : Type 0
 OneByteAtATime = (q : List Message) (n : ℕ) → HaveBytes q →
     let taken = take_stream q n in

@@ -3,8 +3,8 @@ use Rattle.std.specs.Prelude.{◌≤◌, ◌++◌, ℕ, List}
 use Rattle.af_base.specs.Told.{AreReleased}
 use Rattle.af_base.specs.World.{Since, World}
 
--- Two periods of a list, one after the other, join to one: each number that was live at the begin
--- of the first, or was given out since, is live at the end of the second or was listed, once.
+-- Two periods of a list, one after the other, join to one. Each number live at the begin of the
+-- first, or given out since, was listed once or is live at the end of the second.
 abbrev pub PeriodsJoin : Type 0
 PeriodsJoin =
     (since : Since) (mid new : World) (first second : List ℕ) → since.next ≤ mid.next_ino

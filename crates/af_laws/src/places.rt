@@ -46,8 +46,8 @@ pub fn uninstall_counts()
     ensures { UninstallCounts }
 {}
 
-/// A dup2 to an open descriptor lowers the count of the old file by one, raises that of the new one
-/// by one, and keeps all others (dup2(2)).
+/// A dup2 to an open descriptor lowers the count of the old file by one, and raises that of the new
+/// one by one. It keeps all others (dup2(2)).
 pub fn replace_counts()
     ensures { ReplaceCounts }
 {}

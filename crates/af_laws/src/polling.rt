@@ -1,9 +1,9 @@
 //! Laws of what files are ready for.
 ghost use Rattle.af_laws.specs.Polling.{ReadyIsWhatStepsFind, StepLeavesReady, PurgeLeavesReady};
 
-/// In a sound world, what a socket is ready for is what steps find of each process that has it at a
-/// number: whether a receive of a byte, an accept and a send of a byte are refused, and whether the
-/// peer was freed.
+/// In a sound world a socket's readiness is what steps find, of each process that has it at a
+/// number. It tells whether a receive of a byte, an accept and a send of a byte are refused, and
+/// whether the peer was freed.
 pub fn ready_is_what_steps_find()
     ensures { ReadyIsWhatStepsFind }
 {}

@@ -42,7 +42,7 @@ pub fn pass_has_one_outcome()
 {}
 
 /// A begin, and slices with no steps between them, the last of them done, are a whole pass, however
-/// they are cut: it may have the same reply, and lead to the same machine.
+/// they are cut. It may have the same reply, and lead to the same machine.
 pub fn slices_are_a_pass()
     ensures { SlicesAreAPass }
 {}

@@ -26,8 +26,8 @@ pub fn reached_is_held()
     ensures { ReachedIsHeld }
 {}
 
-/// Live files that no table holds, and that only they themselves hold, are garbage: a listener in
-/// the queue of its own embryo, and the embryo in its backlog (net/unix/garbage.c).
+/// Live files that no table holds, and that only they themselves hold, are garbage. An example is a
+/// listener in the queue of its own embryo, with the embryo in its backlog (net/unix/garbage.c).
 pub fn groups_of_their_own_are_garbage()
     ensures { GroupsOfTheirOwnAreGarbage }
 {}

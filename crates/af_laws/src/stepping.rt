@@ -28,8 +28,8 @@ pub fn dup2_to_itself_changes_nothing()
     ensures { Dup2ToItselfChangesNothing }
 {}
 
-/// A send that nothing refuses is charged to the user of the process that sends, a place for each
-/// number that it names, repeats included, and to nobody else.
+/// A send that nothing refuses is charged to the user of the process that sends, and to nobody
+/// else. The charge is a place for each number that it names, repeats included.
 pub fn send_is_charged_to_its_sender()
     ensures { SendIsChargedToItsSender }
 {}

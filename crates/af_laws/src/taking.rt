@@ -49,7 +49,7 @@ pub fn no_files_from_none()
     ensures { NoFilesFromNone }
 {}
 
-/// Receives from a stream lose no byte and give none twice, however many bytes each asks for: what
+/// Receives from a stream lose no byte and give none twice, however many bytes each asks for. What
 /// they took and what is left are what was there.
 pub fn receives_keep_bytes()
     ensures { ReceivesKeepBytes }
@@ -61,7 +61,7 @@ pub fn receives_keep_files()
 {}
 
 /// If each message of a stream has a byte, one receive equals as many receives of one byte as it
-/// took bytes: they give the same bytes and files, and leave the same queue.
+/// took bytes. They give the same bytes and files, and leave the same queue.
 pub fn one_byte_at_a_time()
     ensures { OneByteAtATime }
 {}
