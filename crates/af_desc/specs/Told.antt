@@ -44,8 +44,8 @@ abbrev pub cleaned : Map FileRow → Map FileRow
 cleaned rows = part {A = FileRow} (λ r. record r { dirty = false }) rows
 
 -- One list has just the dirty sockets; if changed sockets are listed, a socket that is not dirty
--- has the face that it had among these files. Numbers rise; if freed files are listed, the other list
--- has those that are gone since the next number was this.
+-- has the face that it had among these files. Numbers rise; if freed files are listed, the other
+-- list has those that are gone since the next number was this.
 pub record AreTold (nodes : Slab Node) (rows : OrderedSlabView FileRow) (told : ToldListsView)
     (files : Map File) (next : ℕ) : Type 0 where
   pub listed : IsDirtyList rows.values told.changed

@@ -149,7 +149,7 @@ impl Process {
         self.slots.len() >= self.limit as usize
     }
 
-    /// Returns whether it has room for this descriptor, as for each that is open, and below one.
+    /// Returns whether there is room for `fd`: so for each open descriptor, and each below one.
     #[inline(always)]
     pub fn has_room_at(&self, fd: Fd) -> bool
         ensures value { result ≡ nat_lt fd self.now.row }
