@@ -1,6 +1,6 @@
 //! The engine, and the log of all that it did.
-ghost use Rattle.std.specs.Prelude.{◌≡◌, ◌≤◌, ◌-◌, [], IfErr, IfOk, IsOk, IsTrue, None, OnErr, OnOk};
-ghost use Rattle.std.specs.Prelude.{Some, length, min};
+ghost use Rattle.std.specs.Prelude.{◌≡◌, ◌≤◌, ◌-◌, [], IfErr, IfOk, IsOk, IsTrue, None, OnErr};
+ghost use Rattle.std.specs.Prelude.{OnOk, Some, length, min};
 ghost use Rattle.af_base.specs.Pass.{Machine};
 ghost use Rattle.af_base.specs.Run.{fresh};
 ghost use Rattle.af_layer.specs.Calls.{Calls, RefusedBy, call_refusal};
@@ -85,7 +85,7 @@ impl Model for Book {
 }
 
 impl Book {
-    /// Makes an empty book for this many seats, 1 to 64. Fails only if memory is refused.
+    /// Makes an empty book for `seats` seats, 1 to 64. Fails only if memory is refused.
     pub fn new(alloc: Global, seats: u32) -> Result<Book, AllocError>
         requires { (1 ≤ seats) × (seats ≤ MAX_SEATS) }
         ensures { IfOk result (λ book.
@@ -136,7 +136,7 @@ impl Book {
         mem::replace(&mut self.log, Vec::new(self.alloc))
     }
 
-    /// Reserves room in the log for this many entries more, as far as it may grow, and writes to
+    /// Reserves room in the log for `entries` more entries, as far as it may grow, and writes to
     /// each page of it. Until they are there, no call takes memory for the log, or is the first to
     /// touch a page of it.
     pub fn reserve(&mut self, entries: usize) -> Result<(), AllocError>
@@ -156,7 +156,7 @@ impl Book {
         &self.engine
     }
 
-    /// Does one event for the seat of this number, and puts it with its reply into the log.
+    /// Does `event` for the seat numbered `seat`, and puts it with its reply into the log.
     ///
     /// Room for the entry is reserved before the step, so that each step is logged. Out of memory
     /// in the step itself is a reply, and is logged. An event of a process needs no other memory to

@@ -49,7 +49,7 @@ fn are_enough(seats: &[Seat], scripts: &[Vec<Event>], collector: Option<Turns>) 
     }
 }
 
-/// Reserves room for this many workers, and for as many seats.
+/// Reserves room for `count` workers, and for as many seats.
 fn rooms(alloc: Global, count: usize) -> Result<(Vec<Worker>, Vec<Seat>), AllocError>
     ensures empty { IfOk result (λ rooms. (rooms.0.items ≡ []) × (rooms.1.items ≡ [])) }
     ensures room { IfOk result (λ rooms.

@@ -64,7 +64,7 @@ pub struct CloseError {
 }
 
 impl Layer {
-    /// Opens an empty layer with this many seats, numbered from 1.
+    /// Opens an empty layer with `seats` seats, numbered from 1.
     ///
     /// Fails with `BadCount` if the number is not 1 to 64, else only if memory is refused.
     pub fn open(alloc: Global, seats: u32) -> Result<(Layer, Vec<Seat>), OpenError>
@@ -112,7 +112,7 @@ impl Layer {
 }
 
 impl<O: Origin> Layer<O> {
-    /// Makes a layer around this book.
+    /// Makes a layer around `book`.
     pub fn of(book: Book) -> Layer<O>
         requires { O.begins book.seats book.start }
     {
@@ -121,7 +121,7 @@ impl<O: Origin> Layer<O> {
         }
     }
 
-    /// Waits for the lock, and does one event from this seat. No other work is done under the lock.
+    /// Waits for the lock, and does `event` from `seat`. No other work is done under the lock.
     ///
     /// The errors are those of [`Seat::call_in`]. Of the log nothing can be said here, since other
     /// threads call too: [`Layer::close`] does.

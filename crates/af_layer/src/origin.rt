@@ -68,7 +68,7 @@ impl Model for Unkept {
 }
 
 impl Unkept {
-    /// Keeps the event and this reply in a seat's list.
+    /// Keeps `event` with this reply in a seat's `list`.
     #[inline(always)]
     pub(crate) fn keep(self, list: &mut List, event: &ShortEvent)
         requires { vec_len list.old.pairs < vec_capacity list.old.pairs }
@@ -102,7 +102,7 @@ impl<O: Origin> Model for BookFrom<O> {
 }
 
 impl<O: Origin> BookFrom<O> {
-    /// Makes it of a book.
+    /// Makes one of `book`, whose log begins so.
     pub(crate) fn of(book: Book) -> BookFrom<O>
         requires { O.begins book.seats book.start }
         ensures { result ≡ book }
@@ -122,7 +122,7 @@ impl<O: Origin> BookFrom<O> {
         book
     }
 
-    /// Does an event for the seat of this number that has no bytes, and whose reply has none.
+    /// Does `event` for the seat numbered `seat`. Neither the event nor its reply has bytes.
     #[inline(always)]
     pub(crate) fn call_short(&mut self, seat: u32, event: &ShortEvent) -> Result<Unkept, CallError>
         ensures done { IfOk result (λ reply.
@@ -134,7 +134,7 @@ impl<O: Origin> BookFrom<O> {
         Ok(Unkept { reply })
     }
 
-    /// Does one event from this seat, in a way that fits any event: [`BookFrom::call`].
+    /// Does `event` from `seat`, in a way that fits any event: [`BookFrom::call`].
     #[inline(never)]
     pub(crate) fn call_whole_from(&mut self, seat: &mut Seat, event: Event) -> Result<(), CallError>
         ensures done { OnOk result ((reply : Answer) × (seat.new ≡ grown seat.old event reply)
@@ -147,7 +147,7 @@ impl<O: Origin> BookFrom<O> {
         seat.call_whole(&mut self.book, event)
     }
 
-    /// Does one event from this seat: [`Seat::call_in`].
+    /// Does `event` from `seat`: [`Seat::call_in`].
     #[inline(always)]
     pub fn call(&mut self, seat: &mut Seat, event: Event) -> Result<(), CallError>
         ensures done { OnOk result ((reply : Answer) × (seat.new ≡ grown seat.old event reply)

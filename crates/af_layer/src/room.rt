@@ -105,8 +105,8 @@ impl ReplyRoom {
     }
 }
 
-/// Reserves room for this many values more, and writes a blank into all room that is new, so that
-/// no page of it is touched for the first time later. The list is unchanged.
+/// Reserves room for `more` more values, and writes a blank into all room that is new, so that no
+/// page of it is touched for the first time later. The list is unchanged.
 pub fn reserve_touched<T: Drop, F: Fn() -> T>(
     list: &mut Vec<T>,
     more: usize,

@@ -51,7 +51,7 @@ impl Model for Seat {
 }
 
 impl Seat {
-    /// Makes the seat of this number, with an empty list.
+    /// Makes the seat numbered `number`, with an empty list.
     pub(crate) fn new(alloc: Global, number: u32) -> Seat
         ensures { result ≡ record { number = number; list = [] } }
     {
@@ -79,8 +79,8 @@ impl Seat {
         self.list.pairs.as_slice()
     }
 
-    /// Reserves room in the list for this many pairs more, and writes to each page of it. Until
-    /// they are there, no call takes memory for the list, or is the first to touch a page of it.
+    /// Reserves room in the list for `pairs` more pairs, and writes to each page of it. Until they
+    /// are there, no call takes memory for the list, or is the first to touch a page of it.
     pub fn reserve(&mut self, pairs: usize) -> Result<(), AllocError>
         ensures { self.new ≡ self.old }
     {
@@ -98,7 +98,7 @@ impl Seat {
         self.list.pairs.clear();
     }
 
-    /// Does one event on a book, under this seat's number, and keeps it with its reply.
+    /// Does `event` on `book`, under this seat's number, and keeps it with its reply.
     ///
     /// Room for the pair is reserved first; if it is refused, the error is `NoRoom`. The other
     /// errors are those of [`Book::call`]. After an error the book and the seat are as they were,

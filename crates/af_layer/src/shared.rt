@@ -11,7 +11,7 @@ pub struct Shared<T: Drop> {
 }
 
 impl<T: Drop> Shared<T> {
-    /// Shares this value.
+    /// Shares `value`.
     pub fn of(value: T) -> Shared<T> {
         Shared {
             value: Mutex::new(value),

@@ -93,7 +93,7 @@ fn call_through<R: Wait, O: Origin, G: Gate>(
     done
 }
 
-/// Does a script from this seat, up to the first call that is refused.
+/// Does a script from `seat`, up to the first call that is refused.
 fn play<R: Wait, O: Origin, G: Gate>(
     rt: &R,
     layer: &Layer<O>,
