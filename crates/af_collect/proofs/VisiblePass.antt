@@ -66,9 +66,9 @@ counted_gone w m c f unmarked known is = ap (λ b. record c { reclaimed = c.recl
   same = λ i. by (map.get w.files f) i && (nat_lt f m.bound && (known i && not (is_marked m f)))
 
 -- A slice that ends the pass, where none of the garbage of the begin is live.
-pub slices_done : (begun begun' w v : World) (k k' b pass n : ℕ) → ArePurged begun w v b → ((f : ℕ) → Garbage begun f → ¬ (IsLive v f)) → IsGarbageCount begun n
-    → Slices begun w k b pass (reply.Done pass n) v (pass_of Resting begun' k')
-slices_done begun begun' w v k k' b pass n p none count = record {
+pub slices_done : (begun w v : World) (k b pass n : ℕ) → ArePurged begun w v b → ((f : ℕ) → Garbage begun f → ¬ (IsLive v f)) → IsGarbageCount begun n
+    → Slices begun w k b pass (reply.Done pass n) v Idle
+slices_done begun w v k b pass n p none count = record {
   emptied_files = p.files;
   few = p.few;
   of_garbage = p.of_garbage;

@@ -1,6 +1,5 @@
 //! A pass, unit by unit: a file is visited, scanned or swept.
 ghost use Rattle.std.specs.Prelude.{◌≡◌, ◌<◌, ◌≤◌, ◌+◌, ℕ, true, false, IfSome, IfNone};
-ghost use Rattle.af_base.specs.World.{IsLive};
 ghost use Rattle.af_base.specs.Reached.{IsGarbageCount};
 ghost use Rattle.af_base.specs.Whole.{IsSound};
 ghost use Rattle.af_mark.specs.MarksView.{is_grey};
@@ -8,7 +7,7 @@ ghost use Rattle.af_collect.specs.declared.progress.Stage.TheVariants as stage;
 ghost use Rattle.af_collect.specs.Keeping.{is_running};
 ghost use Rattle.af_collect.specs.Looks.{MarksByLooks, OnlyMarks};
 ghost use Rattle.af_collect.specs.Purged.{ArePurged};
-ghost use Rattle.af_collect.specs.Collecting.{NoneLeft, NoneLive};
+ghost use Rattle.af_collect.specs.Collecting.{IsFirstFrom, NoneLeft, NoneLive};
 
 use crate::progress::Stage;
 use crate::store::Store;
@@ -143,9 +142,7 @@ impl Store {
     /// the position behind it in the order.
     #[inline(always)]
     fn next_from(&self, from: u64) -> Option<(FileRef, usize)>
-        ensures live { IfSome result (λ f. IsLive self.now.world f.0) }
-        ensures within { IfSome result (λ f. (from ≤ f.0) × (f.0 < self.now.marks.bound)) }
-        ensures least { IfSome result (λ f. NoneLive self.now.world from f.0) }
+        ensures some { IfSome result (λ f. IsFirstFrom from self.now.world self.now.marks f.0) }
         ensures none { IfNone result
             (NoneLive self.now.world from self.now.marks.bound) }
     {
@@ -167,10 +164,7 @@ impl Store {
     fn visit(&mut self, file: &FileRef, left: u32) -> u32
         requires marking { self.old.progress.stage ≡ stage.Marking }
         requires some { 0 < left }
-        requires live { IsLive self.old.world file.now }
-        requires within { (self.old.progress.visited ≤ file.now)
-            × (file.now < self.old.marks.bound) }
-        requires least { NoneLive self.old.world self.old.progress.visited file.now }
+        requires first { IsFirstFrom self.old.progress.visited self.old.world self.old.marks file.now }
         ensures frame { self.new ≡ record self.old {
           marks = self.new.marks;
           pass = self.new.pass;
@@ -218,10 +212,7 @@ impl Store {
     fn sweep(&mut self, file: &FileRef)
         requires sweeping { self.old.progress.stage ≡ stage.Sweeping }
         requires sound { IsSound self.old.world }
-        requires live { IsLive self.old.world file.now }
-        requires within { (self.old.progress.swept ≤ file.now)
-            × (file.now < self.old.marks.bound) }
-        requires least { NoneLive self.old.world self.old.progress.swept file.now }
+        requires first { IsFirstFrom self.old.progress.swept self.old.world self.old.marks file.now }
         ensures sound { IsSound self.new.world }
         ensures rows { self.new.rows ≡ self.old.rows }
         ensures since { self.new.since ≡ self.old.since }

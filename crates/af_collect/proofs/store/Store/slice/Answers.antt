@@ -29,6 +29,6 @@ returns-clause-does c = λ begun spent pass e.
     let u = c.do_units.ensures in
     let over = c.if-not-do_units.false in
     let is = seen_begun old.progress.stage old.begun begun old.progress.looked spent (sym c.lemma_progress.ensures ∙ e) in
-    let done = subst (λ b. Slices b old.world spent c.args.budget pass (reply.Done pass n) v Idle) is (slices_done old.begun old.begun old.world v spent 0 c.args.budget pass n u.purged (u.gone over) (u.counted over)) in
+    let done = subst (λ b. Slices b old.world spent c.args.budget pass (reply.Done pass n) v Idle) is (slices_done old.begun old.world v spent c.args.budget pass n u.purged (u.gone over) (u.counted over)) in
     subst (λ x. Slices begun old.world spent c.args.budget pass (reply.Done pass c.self.inside.progress.reclaimed) x Idle) (sym (ap (λ (s : HoldingsView). s.world) c.end_pass.ensures.rest))
     (subst (λ (t : StoreView). Slices begun old.world spent c.args.budget pass (reply.Done pass t.progress.reclaimed) t.world Idle) (sym c.self.view_is) done)

@@ -1,10 +1,10 @@
-use Rattle.std.proofs.Common.{◌≡◌, ◌≤◌, ◌<◌, ℕ, ◌+◌, ap, nat_eq, sym, subst, ◌∙◌}
+use Rattle.std.proofs.Common.{◌≡◌, ℕ, ◌+◌, ap, nat_eq, sym, subst, ◌∙◌}
 use Rattle.af_base.specs.Pass.{emptied}
 use Rattle.af_base.specs.Unheld.{Settles}
-use Rattle.af_base.specs.World.{IsLive, World}
+use Rattle.af_base.specs.World.{World}
 use Rattle.af_collect.specs.HoldingsView.{HoldingsView}
 use Rattle.af_mark.specs.MarksView.{MarksView, is_marked}
-use Rattle.af_collect.specs.Collecting.{NoneLive}
+use Rattle.af_collect.specs.Collecting.{IsFirstFrom}
 use Rattle.af_collect.specs.Keeping.{PassInvariant}
 use Rattle.af_collect.specs.Purged.{ArePurged}
 use Rattle.af_collect.specs.StoreView.{StoreView}
@@ -21,17 +21,17 @@ AreSwept p w x = PassInvariant w p.begun.value.world p.holdings.marks (record p.
 
 -- The file is the next to be swept.
 abbrev IsNext : ℕ → StoreView → Type 0
-IsNext x t = (t.progress.stage ≡ Sweeping) × IsLive t.world x × ((t.progress.swept ≤ x) × (x < t.marks.bound)) × NoneLive t.world t.progress.swept x
+IsNext x t = (t.progress.stage ≡ Sweeping) × IsFirstFrom t.progress.swept t.world t.marks x
 
 -- A marked file stays as it is.
 pub invariant_of-self : goal.invariant_of-self
 invariant_of-self c =
     let p = c.self-2.inside in
     let x = c.args.file.now in
-    let r = subst (IsNext x) (sym c.self-2.view_is) (c.requires.sweeping, c.requires.live, c.requires.within, c.requires.least) in
+    let r = subst (IsNext x) (sym c.self-2.view_is) (c.requires.sweeping, c.requires.first) in
     let marked = ap (λ (m : MarksView). is_marked m x) (sym c.files.ensures.marks) ∙ sym c.is_marked.ensures ∙ c.if-is_marked.true in
     subst (AreSwept p p.holdings.world) (sym c.ino.ensures ∙ sym c.self.view_is)
-    (kept_swept_marked p.holdings.marks p.progress x r.0 r.1 r.2.0 r.2.1 r.3 marked c.self-2.invariant)
+    (kept_swept_marked p.holdings.marks p.progress x r.0 r.1.0 r.1.1.0 r.1.1.1 r.1.2 marked c.self-2.invariant)
 
 -- So nothing is purged.
 pub returns-then-is_marked-clause-purged : goal.returns-then-is_marked-clause-purged
@@ -42,8 +42,8 @@ pub invariant_of-self-2 : goal.invariant_of-self-2
 invariant_of-self-2 c =
     let p = c.self-2.inside in
     let x = c.args.file.now in
-    let r = subst (IsNext x) (sym c.self-2.view_is) (c.requires.sweeping, c.requires.live, c.requires.within, c.requires.least) in
-    let k = kept_swept p.holdings.marks p.progress x r.0 r.1 r.2.0 r.2.1 r.3 c.self-2.invariant in
+    let r = subst (IsNext x) (sym c.self-2.view_is) (c.requires.sweeping, c.requires.first) in
+    let k = kept_swept p.holdings.marks p.progress x r.0 r.1.0 r.1.1.0 r.1.1.1 r.1.2 c.self-2.invariant in
     let past = subst (AreSwept p (emptied (nat_eq x) p.holdings.world)) (sym c.ino.ensures ∙ sym c.self.view_is) k in
     subst (λ (s : HoldingsView). PassInvariant s.world p.begun.value.world s.marks (record p.progress { swept = c.self.inside.0 + 1; looked = p.progress.looked + 1 })) (sym c.empty.ensures) past
 
@@ -52,9 +52,9 @@ pub returns-clause-purged : goal.returns-clause-purged
 returns-clause-purged c =
     let p = c.self-2.inside in
     let x = c.args.file.now in
-    let r = subst (IsNext x) (sym c.self-2.view_is) (c.requires.sweeping, c.requires.live, c.requires.within, c.requires.least) in
+    let r = subst (IsNext x) (sym c.self-2.view_is) (c.requires.sweeping, c.requires.first) in
     let last = c.free_unreferenced.new.self.world in
     let unmarked = ap (λ (m : MarksView). is_marked m x) (sym c.files.ensures.marks) ∙ sym c.is_marked.ensures ∙ c.if-is_marked.false in
     subst (λ (t : StoreView). ArePurged t.begun t.world last 1) c.self-2.view_is
-    (purged_one p.holdings.world last x (swept_garbage p.holdings.marks p.progress x r.0 r.1 r.2.1 unmarked c.self-2.invariant)
+    (purged_one p.holdings.world last x (swept_garbage p.holdings.marks p.progress x r.0 r.1.0 r.1.1.1 unmarked c.self-2.invariant)
     (subst (λ s. Settles s.world last) c.empty.ensures c.free_unreferenced.ensures.settles))

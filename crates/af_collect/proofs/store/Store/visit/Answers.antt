@@ -1,7 +1,6 @@
-use Rattle.std.proofs.Common.{◌≡◌, ◌≤◌, ◌<◌, ◌+◌, ap, sym, subst, ◌∙◌}
-use Rattle.af_base.specs.World.{IsLive}
+use Rattle.std.proofs.Common.{◌≡◌, ◌+◌, ap, sym, subst, ◌∙◌}
 use Rattle.af_collect.specs.HoldingsView.{HoldingsView}
-use Rattle.af_collect.specs.Collecting.{NoneLive}
+use Rattle.af_collect.specs.Collecting.{IsFirstFrom}
 use Rattle.af_collect.specs.Keeping.{PassInvariant, units_of}
 use Rattle.af_collect.specs.declared.progress.Stage.TheVariants.{Marking}
 use Rattle.af_collect.proofs.PassChanges.{kept_visit}
@@ -24,8 +23,8 @@ invariant_of-self c =
       | then-scanned w ↦ ap units_of w.if-scanned.true ∙ sym w.units-is ∙ sym c.from.ensures
       | else-scanned w ↦ ap units_of w.if-scanned.false ∙ sym w.units-is ∙ sym c.from.ensures
     ] in
-    let r = subst (λ (t : StoreView). (t.progress.stage ≡ Marking) × IsLive t.world x × ((t.progress.visited ≤ x) × (x < t.marks.bound)) × NoneLive t.world t.progress.visited x) (sym c.self.view_is) (c.requires.marking, c.requires.live, c.requires.within, c.requires.least) in
-    let k = kept_visit s p.holdings.marks p.progress x e.scanned c.lemma_is_whole.ensures.whole r.0 r.1 r.2.0 r.2.1 r.3 c.self.invariant in
+    let r = subst (λ (t : StoreView). (t.progress.stage ≡ Marking) × IsFirstFrom t.progress.visited t.world t.marks x) (sym c.self.view_is) (c.requires.marking, c.requires.first) in
+    let k = kept_visit s p.holdings.marks p.progress x e.scanned c.lemma_is_whole.ensures.whole r.0 r.1.0 r.1.1.0 r.1.1.1 r.1.2 c.self.invariant in
     let past = subst (λ (t : HoldingsView). PassInvariant t.world begun t.marks (record p.progress { visited = x + 1; looked = p.progress.looked + units_of s })) (sym e.marks) k in
     let after = subst (λ n. PassInvariant new.world begun new.marks (record p.progress { visited = x + 1; looked = p.progress.looked + n })) units past in
     subst (λ n. PassInvariant new.world begun new.marks (record p.progress { visited = n + 1; looked = p.progress.looked + c.from.result })) (sym c.ino.ensures ∙ sym c.self-2.view_is) after
