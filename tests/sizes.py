@@ -142,9 +142,9 @@ def functions_of_rust(text: str) -> Dict[int, int]:
 
 BUDGET = (
     Limit("files", 1550, all_files),
-    Limit("words of prose", 35_400, words),
+    Limit("words of prose", 35_600, words),
     Limit(f"files that name {EVENT}", 72, naming_an_event),
-    Limit("lines of .rt over their width", 25, wide_lines("rt")),
+    Limit("lines of .rt over their width", 26, wide_lines("rt")),
     Limit("lines of .antt over their width", 7400, wide_lines("antt")),
     Limit("lines of C and Rust over their width", 38, wide_lines("c", "h", "rs")),
     Limit("lines of Python and shell over their width", 13, wide_lines("py", "sh")),
