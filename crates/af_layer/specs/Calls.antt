@@ -25,7 +25,7 @@ RefusedBy (Some e) r = r ≡ Err e
 RefusedBy None r = IfErr r (λ e. e ≡ fault.NoRoom)
 
 -- A call: the machine does one step, and the book appends the entry of this seat with the event and
--- its reply, which takes the place of one.
+-- its reply. That uses up the room of one entry at most.
 pub record Calls (old : BookView) (seat : ℕ) (e : Event) (r : Reply) (new : BookView) : Type 0 where
   pub log : new.log ≡ old.log ++ record { seat = seat; event = e; reply = r } ∷ []
   pub step : Step old.machine e r new.machine

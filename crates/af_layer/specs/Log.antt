@@ -45,7 +45,7 @@ abbrev pub IsReached : ℕ → Machine → Type 0
 IsReached seats machine = (earlier : List Entry) × IsLegal seats machine earlier
 
 -- The view of a book: the number of seats, the machine from which its log runs, the machine now,
--- the log between them, and how many entries more the log has memory for.
+-- and the log between them. Its room is how many more entries the log has memory for.
 pub record BookView : Type 0 where
   pub seats : ℕ
   pub start : Machine

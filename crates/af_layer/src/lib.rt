@@ -4,7 +4,7 @@
 //! through the layer: a call waits for the lock, does one event, and puts it with its reply into
 //! the log ([`Book`]) and into the seat's own list. [`Layer::close`] compares all lists with the
 //! log. [`drive`] runs scripts, and a collector beside them, each from a seat and in a thread of
-//! its own. A [`Shared`] is a value, as an engine, behind the same lock, without log and seats.
+//! its own. A [`Shared`] is any value behind the same lock, without log and seats.
 #![tactic(auto)]
 
 mod audit;
