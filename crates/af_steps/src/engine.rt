@@ -184,7 +184,7 @@ impl Engine {
     }
 
     /// Does nothing at run time. Shows that the engine's world is well-formed, within all limits,
-    /// and settled, whatever happened before; and that a pass that runs has spent at most three
+    /// and settled, whatever happened before. Shows that a pass that runs has spent at most three
     /// units for each file of its begin.
     pub fn lemma_is_sound(&self)
         ensures sound { IsSound self.now.world }
