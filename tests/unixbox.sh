@@ -2,11 +2,12 @@
 # Whether programs see under unixbox what they see natively.
 # usage: tests/unixbox.sh out/libjaywardrobe.a
 #
-# Builds unixbox, and runs the programs of tests/unixbox natively and under it: by slices of one file
-# and by whole passes, with all places recounted and checked after each call. The outputs are the
-# same, and unixbox finds nothing wrong. With the collector off, the check of a cycle fails. All of
-# it is done again with unixbox under the sanitizers. What cannot be run here is left out, with a
-# line that says so. The first that fails ends the script.
+# Builds unixbox, and runs the programs of tests/unixbox natively and under it: by slices of one
+# file and by whole passes, with all places recounted and checked after each call. The outputs are
+# the same, and unixbox finds nothing wrong. With the collector off, the check of a cycle fails. The
+# statuses of unixbox are tried, and what ends it. All of it is done again with unixbox under the
+# sanitizers. What cannot be run here is left out, with a line that says so. The first that fails
+# ends the script.
 set -eu
 if [ $# -ne 1 ] || [ ! -f "$1" ]; then
     echo "usage: tests/unixbox.sh out/libjaywardrobe.a (make lib builds it)" >&2
@@ -55,9 +56,35 @@ recounts() {
     grep -A 1 " dup2 1 9\$" "$room/steps" | grep -q "^check\$" || fails "no recount after a dup2"
 }
 
+# Runs unixbox. It ends with this status, and says this.
+answers() {
+    status=0
+    expected=$1
+    reason=$2
+    shift 2
+    timeout 60 "$@" > "$room/layer" 2> "$room/said" || status=$?
+    [ $status = "$expected" ] && grep -q -- "$reason" "$room/said" || fails "status $status: $*"
+}
+
+# A status is the program's, or unixbox's own with a reason.
+answers_all() {
+    answers 7 " 0 files left" "$1" sh -c "exit 7"
+    answers 143 " 0 files left" "$1" sh -c 'kill -TERM $$'
+    answers 127 "No such file" "$1" "$room/nothing"
+    answers 126 "Permission denied" "$1" "$room"
+    answers 125 "--budget 0: .* from 1 to 65536" "$1" --budget 0 true
+    answers 125 "--gc some: .* slice, pass or none" "$1" --gc some true
+    answers 125 "no program" "$1"
+    answers 125 "the script is lost: No space" "$1" --script /dev/full true
+    answers 125 "the picture is lost: No space" "$1" --graph /dev/full true
+    "$1" --quiet true 2> "$room/said" && [ ! -s "$room/said" ] || fails "--quiet says something"
+    python3 tests/unixbox/ends.py "$1" > "$room/layer" 2> "$room/said" || fails "ends.py"
+}
+
 # Runs the programs under a build of unixbox.
 plays() {
-    for name in descriptors arguments senders children paths credentials; do
+    for name in descriptors arguments senders addresses room options moves children paths \
+        credentials; do
         same "$1" "$user" "$room/$name"
     done
     for name in waits processes children paths credentials; do
@@ -69,13 +96,15 @@ plays() {
         fails "a cycle is freed with --gc=none"
     fi
     grep -q "not so: poll" "$room/said" || fails "the check of a cycle ends otherwise"
+    answers_all "$1"
     echo "unixbox: the programs passed$2"
 }
 
-for name in notification descriptors arguments senders waits processes children paths credentials \
-    cost; do
+for name in notification descriptors arguments senders addresses room options moves waits processes \
+    children paths credentials cost; do
     $cc $checks -pedantic "tests/unixbox/$name.c" -o "$room/$name" -lpthread
 done
+$cc -nostdlib -static tests/unixbox/pause.c -o "$room/pause"
 if ! $user "$room/notification" 2> "$room/why"; then
     echo "unixbox: no seccomp notification ($(cat "$room/why")), so nothing was run under it"
     exit 0

@@ -13,8 +13,9 @@ static void drop_process(struct process *process) {
 
 /* Adds a process of the layer, which this thread is to fork. It keeps the descriptors back that its
  * binding takes. Returns 0, or EAGAIN where too few are left. */
-long add_process(uint32_t pid, pid_t forker) {
-    struct process value = {.pid = pid, .forker = forker, .has_changed = true};
+long add_process(uint32_t pid, pid_t forker, struct namespaces namespaces) {
+    struct process value = {.pid = pid, .forker = forker, .namespaces = namespaces, .thread = -1,
+                            .has_changed = true};
     value.pidfd = keep_back(fcntl(watches, F_DUPFD_CLOEXEC, 0), KEPT_FOR_CALLS);
     value.spare = keep_back(fcntl(watches, F_DUPFD_CLOEXEC, 0), KEPT_FOR_CALLS);
     struct process *process = copy_of(&value, sizeof value);
@@ -96,7 +97,7 @@ static void bind_adopted(void) {
     size_t count = 0;
     LIST_FOREACH(it, &processes, entries)
         if (it->tgid != 0) tgids[count++] = it->tgid;
-    bind_children_of_threads(getpid());
+    bind_children_of_threads(guard);
     while (count > 0) bind_children_of_threads(tgids[--count]);
 }
 
@@ -107,6 +108,8 @@ void bind_children(pid_t caller) {
     struct status status;
     size_t count = 0;
     bool has_orphans = false;
+    it = LIST_FIRST(&unbound);
+    if (it != NULL && is_single(it)) bind_children_of(it->forker); /* As a rule, that is all. */
     LIST_FOREACH(it, &unbound, unbound_entries) {
         it->is_orphan = it->forker != caller && !read_status(it->forker, &status);
         has_orphans = has_orphans || it->is_orphan;

@@ -111,6 +111,7 @@ long check_claim(const struct call *call, struct ucred *user) {
     read_map(process, "gid_map", &groups);
     user->uid = id_meant(&users, user->uid);
     user->gid = id_meant(&groups, user->gid);
+    if (!is_pending(call)) return -ESRCH; /* What was read may be another's. */
     if (user->uid == UINT32_MAX || user->gid == UINT32_MAX) return -EINVAL;
     bool is_own = user->pid == pid_told_to(process, process->tgid);
     bool is_free = (all >> CAP_SYS_ADMIN & 1) && owns_pids(process);

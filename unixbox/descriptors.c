@@ -1,9 +1,10 @@
 /* Descriptors: tables of programs, kept the same in the kernel and in the layer. */
 #include "unixbox.h"
+#include <linux/close_range.h>
 
 enum { MOST_LOOKS = 40, LOOK_MICROSECONDS = 50 };
 
-static void close_fd(const struct process *process, uint32_t fd) {
+void close_fd(const struct process *process, uint32_t fd) {
     struct file *file = file_of(process, fd);
     record(process->pid, jw_close(&engine, process->pid, fd), "close %u", fd);
     if (file != NULL) close_spare_placeholder(file);
@@ -32,31 +33,53 @@ static bool is_there(const struct process *process, uint32_t fd, const struct fi
             there.st_dev == here.st_dev && there.st_ino == here.st_ino);
 }
 
+/* Notes which file the layer has at each number. Returns how many there are. */
+static off_t list_layer(const struct process *process, uint64_t *inos) {
+    off_t count = 0;
+    uint64_t ino;
+    for (int64_t fd = 0; (fd = jw_next_fd(&engine, process->pid, (uint32_t)fd, &ino)) >= 0; fd++) {
+        inos[fd] = ino;
+        count++;
+    }
+    return count;
+}
+
+/* Notes at which numbers the kernel has files. Returns how many there are. */
+static off_t list_kernel(const struct process *process, bool *is_open) {
+    off_t count = 0;
+    rewinddir(process->table);
+    for (struct dirent *it; (it = readdir(process->table)) != NULL;) {
+        if (it->d_name[0] == '.') continue;
+        is_open[atoi(it->d_name) % JW_MAX_NOFILE] = true;
+        count++;
+    }
+    return count;
+}
+
 /* Opens in the layer what the program has opened by itself, and closes what an exec(2) has closed.
  * All else that closes is served, so two tables with as many descriptors are the same. */
 void sync_table(struct process *process) {
-    bool is_open[JW_MAX_NOFILE] = {false};
+    uint64_t inos[JW_MAX_NOFILE] = {0};
+    bool is_open[JW_MAX_NOFILE] = {false}, has_changed = process->has_changed;
     struct stat table = {.st_size = 0}; /* Kernels before 6.2 leave it so. */
-    uint64_t ino;
-    off_t count = 0;
+    if (is_executing(process)) return;
+    off_t count = list_layer(process, inos);
     int looks = process->closer != 0 ? MOST_LOOKS : 0; /* The kernel may not have closed yet. */
     process->closer = 0;
-    for (int64_t fd = 0; (fd = jw_next_fd(&engine, process->pid, (uint32_t)fd, &ino)) >= 0; fd++)
-        count++;
     while (fstat(dirfd(process->table), &table) == 0 && table.st_size > count && looks-- > 0)
         usleep(LOOK_MICROSECONDS);
-    bool has_changed = process->has_changed;
     if (table.st_size == count && !has_changed) return;
     if (has_changed) refresh_process(process);
     process->has_changed = false;
-    rewinddir(process->table);
-    for (struct dirent *it; (it = readdir(process->table)) != NULL;)
-        if (it->d_name[0] != '.') is_open[atoi(it->d_name) % JW_MAX_NOFILE] = true;
+    if (list_kernel(process, is_open) == 0 && count > 0) {
+        if (!find_table(process)) return; /* All of it is over. */
+        list_kernel(process, is_open);
+    }
     for (uint32_t fd = 0; fd < JW_MAX_NOFILE; fd++) {
-        const struct file *file = file_of(process, fd);
-        bool is_same = file != NULL && is_open[fd] &&
-                       (!has_changed || is_there(process, fd, file));
-        if (file != NULL && !is_same) close_fd(process, fd);
+        bool is_known = inos[fd] != 0;
+        bool is_same = is_known && is_open[fd] &&
+                       (!has_changed || is_there(process, fd, file_at(inos[fd])));
+        if (is_known && !is_same) close_fd(process, fd);
         if (is_same || !is_open[fd]) continue;
         long lowest = record(process->pid, jw_open(&engine, process->pid), "open");
         if (lowest >= 0) move_fd(process, (uint32_t)lowest, fd);
@@ -87,7 +110,7 @@ static long give(const struct call *call, struct file *file, int from, long to,
                  bool closes_on_exec) {
     if (file == NULL) return -EMFILE; /* It had to leave its place, and found none. */
     if (file->host < 0 && file->kind != JW_PLAIN) reopen_placeholder(file);
-    int copy = file->host < 0 ? (int)syscall(SYS_pidfd_getfd, call->process->pidfd, from, 0) : -1;
+    int copy = file->host < 0 ? copy_descriptor(call->process, from) : -1;
     struct seccomp_notif_addfd descriptor = {
         .id = call->id, .srcfd = (uint32_t)(copy >= 0 ? copy : file->host),
         .flags = to >= 0 ? SECCOMP_ADDFD_FLAG_SETFD : 0, .newfd = to >= 0 ? (uint32_t)to : 0,
@@ -123,6 +146,29 @@ long serve_close(struct call *call) {
     if (file_of(call->process, call->fd) != NULL) close_fd(call->process, call->fd);
     call->process->closer = call->process->has_threads ? call->tid : 0;
     return KERNEL_DOES_IT;
+}
+
+/* close_range(2). What it refuses, and flags of descriptors, are the kernel's. */
+long serve_close_range(struct call *call) {
+    uint32_t first = (uint32_t)call->args[0], last = (uint32_t)call->args[1];
+    unsigned flags = (unsigned)call->args[2];
+    uint64_t ino;
+    bool is_left = (flags & CLOSE_RANGE_UNSHARE) && call->process->has_threads;
+    if (is_left) return -EINVAL; /* Threads share a table for good. */
+    if (first > last || (flags & ~(unsigned)CLOSE_RANGE_UNSHARE)) return KERNEL_DOES_IT;
+    for (int64_t fd = first; (fd = jw_next_fd(&engine, call->pid, (uint32_t)fd, &ino)) >= 0 &&
+                             fd <= last; fd++)
+        close_fd(call->process, (uint32_t)fd);
+    call->process->closer = call->process->has_threads ? call->tid : 0;
+    return KERNEL_DOES_IT;
+}
+
+/* setrlimit(2) is prlimit(2) of the caller. */
+long serve_old_limit(struct call *call) {
+    call->args[2] = call->args[1];
+    call->args[1] = call->args[0];
+    call->args[0] = 0;
+    return serve_limit(call);
 }
 
 /* dup(2), dup2(2), dup3(2), and fcntl(2) with F_DUPFD. Left to the kernel, they could be behind

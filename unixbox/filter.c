@@ -4,25 +4,21 @@
 #include <linux/filter.h>
 #include <stdatomic.h>
 
-enum { RESTART = -512, MOST_NUMBERS = 512 };
+enum { RESTART = -512, MOST_NUMBERS = 512, MOST_LOOKS = 200, MOST_CALLS = 64 };
 #define NEVER UINT64_MAX /* A deadline. */
 
 int notifications = -1;
 pthread_mutex_t serving = PTHREAD_MUTEX_INITIALIZER;
+static pthread_mutex_t receiving = PTHREAD_MUTEX_INITIALIZER;
 static TAILQ_HEAD(, call) waiting = TAILQ_HEAD_INITIALIZER(waiting);
 static TAILQ_HEAD(, call) woken = TAILQ_HEAD_INITIALIZER(woken);
 static atomic_bool is_alone; /* There is one process, with one thread. */
+static atomic_int expected; /* How many threads wait for the lock in turn. */
 
-/* Refuses what would move bytes or descriptors past the layer, or tell of placeholders. */
+/* Refuses what would move bytes or descriptors past the layer. */
 static long refuse(struct call *call) {
-    if (call->number == SYS_ioctl && call->args[1] != FIONREAD) return KERNEL_DOES_IT;
-    return call->file != NULL ? -EINVAL : -ENOSYS;
-}
-
-/* sendfile(2), which would read from a placeholder. */
-static long serve_sendfile(struct call *call) {
-    const struct file *source = file_of(call->process, (uint32_t)call->args[1]);
-    return source != NULL && source->kind != JW_PLAIN ? -EINVAL : KERNEL_DOES_IT;
+    (void)call;
+    return -ENOSYS;
 }
 
 /* Handlers of calls whose first argument is a socket of the layer, and of other calls. */
@@ -32,10 +28,10 @@ static handler *const socket_handlers[MOST_NUMBERS] = {
     [SYS_sendto] = serve_send, [SYS_sendmsg] = serve_send, [SYS_bind] = serve_bind,
     [SYS_listen] = serve_listen, [SYS_connect] = serve_connect, [SYS_accept] = serve_accept,
     [SYS_accept4] = serve_accept, [SYS_shutdown] = serve_shutdown, [SYS_getsockname] = serve_name,
-    [SYS_getpeername] = serve_name, [SYS_getsockopt] = serve_option,
-    [SYS_setsockopt] = serve_option, [SYS_ioctl] = refuse, [SYS_sendfile] = refuse,
-    [SYS_sendmmsg] = refuse, [SYS_recvmmsg] = refuse, [SYS_preadv2] = refuse,
-    [SYS_pwritev2] = refuse,
+    [SYS_getpeername] = serve_name, [SYS_getsockopt] = serve_get_option,
+    [SYS_setsockopt] = serve_set_option, [SYS_ioctl] = serve_unread,
+    [SYS_sendfile] = serve_sendfile, [SYS_sendmmsg] = serve_batch, [SYS_recvmmsg] = serve_batch,
+    [SYS_preadv2] = serve_recv, [SYS_pwritev2] = serve_send,
 };
 static handler *const handlers[MOST_NUMBERS] = {
     [SYS_socket] = serve_socket, [SYS_socketpair] = serve_socket, [SYS_close] = serve_close,
@@ -45,9 +41,11 @@ static handler *const handlers[MOST_NUMBERS] = {
     [SYS_execveat] = serve_change, [SYS_exit_group] = serve_change, [SYS_setuid] = serve_change,
     [SYS_setgid] = serve_change, [SYS_setreuid] = serve_change, [SYS_setregid] = serve_change,
     [SYS_setresuid] = serve_change, [SYS_setresgid] = serve_change, [SYS_prlimit64] = serve_limit,
-    [SYS_setrlimit] = refuse, [SYS_setgroups] = serve_change, [SYS_setns] = serve_change, [SYS_io_uring_setup] = refuse, [SYS_io_setup] = refuse,
-    [SYS_splice] = refuse, [SYS_sendfile] = serve_sendfile, [SYS_unshare] = serve_unshare,
-    [SYS_close_range] = refuse, [SYS_pidfd_getfd] = refuse, [SYS_prctl] = serve_prctl,
+    [SYS_setgroups] = serve_change, [SYS_setns] = serve_unshare, [SYS_setrlimit] = serve_old_limit,
+    [SYS_unshare] = serve_unshare, [SYS_prctl] = serve_prctl, [SYS_splice] = serve_splice,
+    [SYS_sendfile] = serve_sendfile_elsewhere, [SYS_close_range] = serve_close_range,
+    [SYS_wait4] = serve_wait, [SYS_waitid] = serve_wait, [SYS_io_uring_setup] = refuse,
+    [SYS_io_setup] = refuse, [SYS_pidfd_getfd] = refuse,
 };
 
 /* Installs the filter in this process. Returns the descriptor of its notifications. */
@@ -72,11 +70,13 @@ int install_filter(void) {
 
 bool read_memory(const struct call *call, void *to, uint64_t from, size_t length) {
     struct iovec here = {to, length}, there = {(void *)from, length};
+    if (length == 0) return true;
     return process_vm_readv(call->tid, &here, 1, &there, 1, 0) == (ssize_t)length;
 }
 
 bool write_memory(const struct call *call, uint64_t to, const void *from, size_t length) {
     struct iovec here = {(void *)from, length}, there = {(void *)to, length};
+    if (length == 0) return true;
     return process_vm_writev(call->tid, &here, 1, &there, 1, 0) == (ssize_t)length;
 }
 
@@ -86,57 +86,76 @@ bool is_pending(const struct call *call) {
 }
 
 static void answer(struct call *call, long result) {
+    handler *serve = socket_handlers[call->number];
+    bool is_received = call->moved > 0 && serve == serve_recv;
     if (call->moved > 0) result = (long)call->moved; /* Whatever ended it. */
+    if (call->raises_sigpipe && result == -EPIPE)
+        syscall(SYS_tgkill, call->process->tgid, call->tid, SIGPIPE);
+    if (serve == serve_batch) result = answer_of_batch(call, result);
     struct seccomp_notif_resp response = {.id = call->id, .val = result >= 0 ? result : 0};
     response.flags = result == KERNEL_DOES_IT ? SECCOMP_USER_NOTIF_FLAG_CONTINUE : 0;
     response.error = result < 0 && result != KERNEL_DOES_IT ? (int)result : 0;
-    if (call->raises_sigpipe && result == -EPIPE)
-        syscall(SYS_tgkill, call->process->tgid, call->tid, SIGPIPE);
-    if (ioctl(notifications, SECCOMP_IOCTL_NOTIF_SEND, &response) < 0)
-        counts.lost += call->moved > 0 && socket_handlers[call->number] == serve_recv;
+    if (ioctl(notifications, SECCOMP_IOCTL_NOTIF_SEND, &response) < 0) counts.lost += is_received;
     free(call);
 }
 
 /* Says at the first call of a process that the layer does not know that such calls fail. */
-static void report_stranger(pid_t tid) {
-    if (counts.strangers++ == 0)
+static void report_unknown(pid_t tid) {
+    if (counts.unknown++ == 0)
         fprintf(stderr, "unixbox: process %d is not known: its calls fail with EPERM\n", tid);
 }
 
-/* Serves a call, and answers it or lets it wait. */
-static void run(struct call *call) {
+/* Serves a call by the handler of its number, if there is one. */
+static long serve_by_number(struct call *call) {
+    call->file = file_of(call->process, call->fd);
+    if (call->file != NULL && call->file->kind == JW_PLAIN) call->file = NULL;
+    handler *serve = call->file != NULL ? socket_handlers[call->number] : NULL;
+    if (serve == NULL) serve = handlers[call->number];
+    return serve != NULL && is_pending(call) ? serve(call) : KERNEL_DOES_IT;
+}
+
+/* Serves a call of a process that is known and not over. */
+static long serve_call(struct call *call) {
     struct process *process = call->process;
-    long result = process != NULL ? KERNEL_DOES_IT : -EPERM;
-    if (process == NULL && is_pending(call)) report_stranger(call->tid);
-    if (process != NULL && is_pending(call) && !process->is_over) {
-        if (process->closer == call->tid) process->closer = 0; /* It has closed. */
-        if (process->has_changed) sync_table(process);
-        call->file = file_of(process, call->fd);
-        if (call->file != NULL && call->file->kind == JW_PLAIN) call->file = NULL;
-        handler *serve = call->file != NULL ? socket_handlers[call->number] : NULL;
-        if (serve == NULL) serve = handlers[call->number];
-        if (serve != NULL) result = serve(call);
-    }
-    settle(false); /* Before its caller goes on, placeholders are ready for what the call left. */
+    if (process == NULL && is_pending(call)) report_unknown(call->tid);
+    if (process == NULL) return -EPERM;
+    if (process->is_over) return KERNEL_DOES_IT;
+    if (process->closer == call->tid) process->closer = 0; /* It has closed. */
+    if (process->executor == call->tid) process->executor = 0; /* Its exec(2) is over. */
+    if (process->has_changed) sync_table(process);
+    return serve_by_number(call);
+}
+
+/* Answers a call, or lets it wait. Before its caller goes on, placeholders are ready for what the
+ * call left. */
+static void finish(struct call *call, long result) {
+    settle(false);
     if (result == CALL_WAITS)
         TAILQ_INSERT_TAIL(&waiting, call, entries);
     else
         answer(call, result);
 }
 
-/* Serves woken calls once more. Where a signal has come, the kernel makes EINTR of a restart. */
-void rerun_woken_calls(void) {
+static bool is_interrupted(const struct call *call) {
     struct status status;
+    return !read_status(call->tid, &status) || status.is_signalled;
+}
+
+/* Serves woken calls once more, unless their callers are over, whose processes may be forgotten. If
+ * one has to wait on and a signal has come, it ends: the kernel makes EINTR of a restart. */
+void rerun_woken_calls(void) {
     for (struct call *call; (call = TAILQ_FIRST(&woken)) != NULL;) {
         TAILQ_REMOVE(&woken, call, entries);
-        if (!read_status(call->tid, &status) || status.is_signalled)
-            answer(call, call->deadline == NEVER ? RESTART : -EINTR);
-        else
-            run(call);
+        long result = is_pending(call) ? serve_call(call) : KERNEL_DOES_IT;
+        if (result == CALL_WAITS && is_interrupted(call)) {
+            result = serve_call(call); /* What came with the signal goes first. */
+            if (result == CALL_WAITS) result = call->deadline == NEVER ? RESTART : -EINTR;
+        }
+        finish(call, result);
     }
 }
 
-static void serve_call(const struct seccomp_notif *notif) {
+static void serve_notification(const struct seccomp_notif *notif) {
     if (!is_alone) forget_ended(); /* A caller may have waited for a child that was killed. */
     struct call call = {.id = notif->id, .number = notif->data.nr, .tid = (pid_t)notif->pid,
                         .fd = (uint32_t)notif->data.args[0]};
@@ -144,53 +163,115 @@ static void serve_call(const struct seccomp_notif *notif) {
     memcpy(call.args, notif->data.args, sizeof call.args);
     if (call.process != NULL) call.pid = call.process->pid;
     counts.calls++;
-    run(copy_of(&call, sizeof call));
+    struct call *kept = copy_of(&call, sizeof call);
+    finish(kept, serve_call(kept));
     collect();
     rerun_woken_calls();
     const struct process *first = LIST_FIRST(&processes);
     is_alone = first != NULL && LIST_NEXT(first, entries) == NULL && !first->has_threads;
 }
 
-/* Receives calls and serves them, in each of several threads. Until a call is received, any signal
- * ends it, and a close(2) answers EINTR: so one receives while others serve or wait to. */
-void *serve_calls(void *none) {
-    static pthread_mutex_t receiving = PTHREAD_MUTEX_INITIALIZER;
+/* Whether a call is served sooner than another thread would be there to receive the next one. */
+static bool is_quick(int number) {
+    handler *serve = socket_handlers[number];
+    bool moves_bytes = serve == serve_send || serve == serve_recv;
+    bool is_checked = options.verifies || options.checks || options.collector == COLLECT_PASSES;
+    return is_alone || (!is_checked && (moves_bytes || number == SYS_close));
+}
+
+/* Takes the lock. Who tries to have it soon gives way: one thread could have it again and again. */
+void lock_first(void) {
+    expected++;
+    pthread_mutex_lock(&serving);
+    expected--;
+}
+
+/* Takes the lock, if it is free in some microseconds, as after a quick call. */
+static bool lock_soon(void) {
+    int looks = 0;
+    while (expected > 0 || pthread_mutex_trylock(&serving) != 0)
+        if (++looks == MOST_LOOKS) return false;
+    return true;
+}
+
+static bool receive_call(struct seccomp_notif *out) {
+    *out = (struct seccomp_notif){0};
+    return ioctl(notifications, SECCOMP_IOCTL_NOTIF_RECV, out) == 0;
+}
+
+static bool is_call_there(void) {
     struct pollfd ask = {notifications, POLLIN, 0};
-    bool is_receiver = false, has_call = true;
+    return poll(&ask, 1, 0) == 1 && ask.revents == POLLIN;
+}
+
+/* Serves a call, and those that come meanwhile: before each is served, all that are there are
+ * received. Where one is not quick, another thread receives from then on. Returns whether this one
+ * still does. */
+static bool serve_in_turn(const struct seccomp_notif *first) {
+    struct seccomp_notif calls[MOST_CALLS] = {*first};
+    bool is_receiver = true;
+    for (size_t next = 0, count = 1; next < count; next++) {
+        if (is_receiver && !is_quick(calls[next].data.nr)) {
+            is_receiver = false;
+            pthread_mutex_unlock(&receiving);
+        }
+        while (is_receiver && !is_alone && expected == 0 && count < MOST_CALLS &&
+               is_call_there() && receive_call(&calls[count]))
+            count++;
+        serve_notification(&calls[next]);
+    }
+    return is_receiver;
+}
+
+/* Receives calls and serves them, in each of several threads. Until a call is received, any signal
+ * ends it, and a close(2) answers EINTR: so one receives while others serve or wait to. It serves
+ * quick calls itself, which spares a change of threads. */
+void *serve_calls(void *none) {
+    struct pollfd ask = {notifications, POLLIN, 0};
+    bool is_receiver = false;
     while (!(ask.revents & (POLLHUP | POLLERR))) {
-        struct seccomp_notif notif = {0};
+        struct seccomp_notif call;
         if (!is_receiver) pthread_mutex_lock(&receiving);
-        has_call = ioctl(notifications, SECCOMP_IOCTL_NOTIF_RECV, &notif) == 0;
+        bool has_call = receive_call(&call);
         if (!has_call) poll(&ask, 1, 0); /* Whether a program is left. */
-        is_receiver = has_call && is_alone;
+        is_receiver = has_call && is_quick(call.data.nr) && lock_soon();
         if (!is_receiver) pthread_mutex_unlock(&receiving);
         if (!has_call) continue;
-        pthread_mutex_lock(&serving);
-        serve_call(&notif);
+        if (is_receiver) {
+            is_receiver = serve_in_turn(&call);
+        } else {
+            lock_first();
+            serve_notification(&call);
+        }
         pthread_mutex_unlock(&serving);
     }
     return none;
 }
 
-static uint64_t now(void) {
+uint64_t now(void) {
     struct timespec time;
     clock_gettime(CLOCK_MONOTONIC, &time);
     return (uint64_t)time.tv_sec * 1000 + (uint64_t)time.tv_nsec / 1000000;
 }
 
+/* Returns when a call gives up that begins to wait now. */
+static uint64_t deadline_of(const struct call *call, int host) {
+    handler *serve = socket_handlers[call->number];
+    int option = serve == serve_recv || serve == serve_accept ? SO_RCVTIMEO : SO_SNDTIMEO;
+    struct timeval limit = {0, 0};
+    getsockopt(host, SOL_SOCKET, option, &limit, &(socklen_t){sizeof limit});
+    uint64_t wait = (uint64_t)limit.tv_sec * 1000 + (uint64_t)limit.tv_usec / 1000;
+    return wait > 0 ? now() + wait + 1 : NEVER;
+}
+
 /* Lets a call wait until this socket changes. Returns EAGAIN where it may not, or no longer. */
 long wait_for(struct call *call, int flags, uint64_t ino) {
-    handler *serve = socket_handlers[call->number];
-    bool may_wait = !(flags & MSG_DONTWAIT) && !(fcntl(call->file->host, F_GETFL) & O_NONBLOCK);
-    if (call->deadline == 0) {
-        int option = serve == serve_recv || serve == serve_accept ? SO_RCVTIMEO : SO_SNDTIMEO;
-        struct timeval limit = {0, 0};
-        getsockopt(call->file->host, SOL_SOCKET, option, &limit, &(socklen_t){sizeof limit});
-        uint64_t wait = (uint64_t)limit.tv_sec * 1000 + (uint64_t)limit.tv_usec / 1000;
-        call->deadline = wait > 0 ? now() + wait + 1 : NEVER;
-    }
+    int host = call->file != NULL ? call->file->host : -1;
+    bool may_wait = !(flags & MSG_DONTWAIT) && (host < 0 || !(fcntl(host, F_GETFL) & O_NONBLOCK));
+    if (!may_wait) return -EAGAIN;
+    if (call->deadline == 0) call->deadline = deadline_of(call, host);
     call->waits_for = ino;
-    return may_wait && now() < call->deadline ? CALL_WAITS : -EAGAIN;
+    return call->deadline == NEVER || now() < call->deadline ? CALL_WAITS : -EAGAIN;
 }
 
 /* Wakes the calls that wait for a socket, or all. */
@@ -201,4 +282,11 @@ void wake(uint64_t ino) {
         TAILQ_REMOVE(&waiting, it, entries);
         TAILQ_INSERT_TAIL(&woken, it, entries);
     }
+}
+
+/* Wakes the calls that wait for either end of a connection. */
+void wake_ends(const struct file *file) {
+    const struct file *peer = peer_of(file);
+    wake(file->ino);
+    if (peer != NULL) wake(peer->ino);
 }

@@ -1,6 +1,8 @@
 /* Steps of the layer and their record, the collector, and what is found. */
 #include "unixbox.h"
+#include <err.h>
 #include <stdarg.h>
+#include <sys/param.h>
 
 enum { MOST_PICTURE = 1 << 24, MOST_LEAKS = 64 };
 
@@ -69,15 +71,17 @@ void settle(bool is_collected) {
     int64_t freed = jw_released(&engine, inos, JW_MAX_FILES);
     for (int64_t i = 0; i < freed; i++) {
         struct file *file = file_at(inos[i]);
-        if (file != NULL && is_collected) note_leak(file);
-        if (file != NULL) free_file(file);
+        if (file == NULL) continue;
+        if (is_collected) note_leak(file);
+        drop_queue(file);
+        if (is_collected) refresh(file); /* It had no messages, so its peer sees no reset. */
+        free_file(file);
     }
     int64_t changed = jw_changed(&engine, inos, JW_MAX_FILES);
     for (int64_t i = 0; i < changed; i++) {
-        struct file *file = file_at(inos[i]), *peer = peer_of(file);
+        struct file *file = file_at(inos[i]);
         refresh(file);
-        wake(inos[i]);
-        if (peer != NULL) wake(peer->ino);
+        wake_ends(file);
     }
     if (freed + changed > 0) jw_clear_told(&engine);
     inspect();
@@ -105,28 +109,52 @@ bool collect(void) {
     return is_running || is_collection_due;
 }
 
-/* Writes the picture, does the last pass, and says what was found. */
-void conclude(void) {
+static void write_picture(void) {
     static uint8_t picture[MOST_PICTURE];
-    uint64_t live = 0;
     size_t length = (size_t)jw_graph(&engine, picture, sizeof picture);
-    length = length < MOST_PICTURE ? length : MOST_PICTURE;
-    if (options.graph != NULL &&
-        (fwrite(picture, 1, length, options.graph) != length || fclose(options.graph) != 0))
-        perror("the picture");
-    options.collector = COLLECT_PASSES;
-    do is_collection_due = true; while (collect());
-    jw_live(&engine, &live);
-    fprintf(stderr, "unixbox: %lu calls, %lu layer calls, %lu passes, %lu sockets reclaimed\n"
-            "unixbox: %lu other numbers, %lu wrong counts, %lu failed checks, %lu lost messages, "
-            "%lu calls of strangers, %lu files left\n", counts.calls, counts.steps, counts.passes,
-            counts.reclaimed, counts.other_numbers, counts.wrong_counts, counts.failed_checks,
-            counts.lost, counts.strangers, live);
-    if (counts.reclaimed > 0)
-        fprintf(stderr, "unixbox: leaked in cycles, by who sent it last (0: nobody)\n"
-                "    pid program          sockets  plain files\n");
+    if (options.graph != NULL) fwrite(picture, 1, MIN(length, MOST_PICTURE), options.graph);
+}
+
+/* Closes an output. Returns whether all of it was written, and else says why not. */
+static bool close_output(FILE *output, const char *what) {
+    if (output == NULL) return true;
+    bool is_written = fflush(output) == 0 && !ferror(output);
+    if (!is_written) warn("%s is lost", what);
+    return fclose(output) == 0 && is_written;
+}
+
+static void print_leaks(void) {
+    fprintf(stderr, "unixbox: leaked in cycles, by who sent it last (0: nobody)\n"
+            "    pid program          sockets  plain files\n");
     for (int i = 0; i < MOST_LEAKS && leaks[i].count[0] + leaks[i].count[1] > 0; i++)
         fprintf(stderr, "%7d %-16s %7lu  %11lu\n", leaks[i].sender.user.pid, leaks[i].sender.name,
                 leaks[i].count[0], leaks[i].count[1]);
+}
+
+/* Says what was found. */
+static void print_counts(void) {
+    uint64_t live = 0;
+    jw_live(&engine, &live);
+    uint64_t wrong = counts.other_numbers + counts.wrong_counts + counts.failed_checks +
+                     counts.lost + counts.unknown + live;
+    if (options.is_quiet && wrong == 0) return;
+    fprintf(stderr, "unixbox: %lu calls, %lu layer calls, %lu passes, %lu sockets reclaimed\n"
+            "unixbox: %lu other numbers, %lu wrong counts, %lu failed checks, %lu lost messages, "
+            "%lu unknown callers, %lu files left\n", counts.calls, counts.steps, counts.passes,
+            counts.reclaimed, counts.other_numbers, counts.wrong_counts, counts.failed_checks,
+            counts.lost, counts.unknown, live);
+    if (counts.reclaimed > 0) print_leaks();
+}
+
+/* Writes the picture, does the last pass, and says what was found. Returns whether all that was
+ * asked for is written. */
+bool conclude(void) {
+    write_picture();
+    bool is_drawn = close_output(options.graph, "the picture");
+    options.collector = COLLECT_PASSES;
+    do is_collection_due = true; while (collect());
+    bool is_recorded = close_output(options.script, "the script");
+    print_counts();
     jw_engine_free(&engine);
+    return is_drawn && is_recorded;
 }

@@ -3,20 +3,20 @@
 #include "unixbox.h"
 #include <linux/nsfs.h>
 
-enum { OVERFLOW_ID = 65534, MOST_LEVELS = 32 };
+enum { OVERFLOW_ID = 65534, MOST_LEVELS = 32, MOST_NESTED = 2 * JW_MAX_PROCESSES };
 
 /* The numbers of a process in other pid namespaces than unixbox's, from the outermost inwards. They
- * are kept in a ring, since messages of processes that are over tell them, too. */
+ * are kept in a ring when it is over, since its messages tell them. */
 static struct nested {
     pid_t tgid;
     size_t depth;
     uint32_t pids[MOST_LEVELS];
     ino_t namespaces[MOST_LEVELS];
-} nested[JW_MAX_PROCESSES];
+} nested[MOST_NESTED];
 static size_t newest; /* Its last entry. */
 static ino_t own_pids, own_users; /* unixbox's namespaces. */
 
-static int open_namespace(pid_t tid, const char *kind) {
+int open_namespace(pid_t tid, const char *kind) {
     char path[64];
     snprintf(path, sizeof path, "/proc/%d/ns/%s", tid, kind);
     return open(path, O_RDONLY | O_CLOEXEC);
@@ -41,21 +41,32 @@ void read_own_namespaces(void) {
 
 /* Returns whether a process has unixbox's user namespace. */
 bool shares_users(const struct process *process) {
-    return process->user_namespace == own_users;
+    return process->namespaces.users == own_users;
 }
 
-/* Returns whether the process's pid namespace belongs to its user namespace, not to an outer one. */
+/* Returns whether a process's pid namespace belongs to its user namespace, not to an outer one. */
 bool owns_pids(const struct process *process) {
     int pids = open_namespace(process->tgid, "pid");
     ino_t owner = close_namespace(ioctl(pids, NS_GET_USERNS));
     close(pids);
-    return owner != 0 && owner == process->user_namespace;
+    return owner != 0 && owner == process->namespaces.users;
+}
+
+/* Reads the namespaces of a process, if it may have others than those that are known. */
+void read_namespaces(struct process *process) {
+    struct namespaces *it = &process->namespaces;
+    if (!it->is_stale) return;
+    it->is_stale = false;
+    it->pids = namespace_of(process->tgid, "pid");
+    it->users = namespace_of(process->tgid, "user");
+    it->network = namespace_of(process->tgid, "net");
 }
 
 /* Notes the numbers of a process that has others than unixbox sees. */
 void note_pids(const struct process *process) {
-    if (process->pid_namespace == own_pids) return;
-    newest = (newest + 1) % JW_MAX_PROCESSES;
+    if (process->namespaces.pids == own_pids) return;
+    do newest = (newest + 1) % MOST_NESTED;
+    while (nested[newest].tgid != 0 && process_by(nested[newest].tgid) != NULL);
     struct nested *it = &nested[newest];
     it->tgid = process->tgid;
     it->depth = read_numbers(read_all(process->tgid, "status"), "NSpid", it->pids, MOST_LEVELS);
@@ -77,10 +88,10 @@ static pid_t pid_in(const struct nested *it, ino_t namespace) {
 
 /* Returns the number that a process sees for another, or 0 where it sees none. */
 pid_t pid_told_to(const struct process *process, pid_t pid) {
-    if (process->pid_namespace == own_pids) return pid;
-    for (size_t age = 0; age < JW_MAX_PROCESSES; age++) {
-        const struct nested *it = &nested[(newest - age) % JW_MAX_PROCESSES];
-        if (it->tgid == pid) return pid_in(it, process->pid_namespace);
+    if (process->namespaces.pids == own_pids) return pid;
+    for (size_t age = 0; age < MOST_NESTED; age++) {
+        const struct nested *it = &nested[(newest - age) % MOST_NESTED];
+        if (it->tgid == pid) return pid_in(it, process->namespaces.pids);
     }
     return 0;
 }
@@ -88,11 +99,11 @@ pid_t pid_told_to(const struct process *process, pid_t pid) {
 /* Returns unixbox's number for one that a process sees, or 0 where there is none. */
 pid_t pid_meant_by(const struct process *process, pid_t pid) {
     if (pid <= 0) return 0;
-    if (process->pid_namespace == own_pids)
+    if (process->namespaces.pids == own_pids)
         return kill(pid, 0) == 0 || errno == EPERM ? pid : 0;
-    for (size_t age = 0; age < JW_MAX_PROCESSES; age++) {
-        const struct nested *it = &nested[(newest - age) % JW_MAX_PROCESSES];
-        if (pid_in(it, process->pid_namespace) == pid && kill(it->tgid, 0) == 0) return it->tgid;
+    for (size_t age = 0; age < MOST_NESTED; age++) {
+        const struct nested *it = &nested[(newest - age) % MOST_NESTED];
+        if (pid_in(it, process->namespaces.pids) == pid && kill(it->tgid, 0) == 0) return it->tgid;
     }
     return 0;
 }

@@ -1,6 +1,6 @@
 /* Paths: the supervisor walks a pathname from the caller's root or working directory, as the kernel
  * would for the caller (path_resolution(7)): with its rights, with its links, and with its own
- * folder as /proc/self. A walk goes by descriptors, so that nothing changes under it. */
+ * folder as /proc/self. Each step is a descriptor, so that nothing changes under it. */
 #include "unixbox.h"
 #include <linux/magic.h>
 #include <linux/openat2.h>
@@ -48,17 +48,21 @@ static bool is_same_place(int one, int other) {
            here.stx_mnt_id == there.stx_mnt_id;
 }
 
-/* Opens the caller's folder of procfs, where a component stands for it. Else returns -1. */
-static int open_own_folder(const struct walk *walk, const char *name) {
+/* Whether a component stands for the caller's folder of procfs. */
+static bool is_own_folder(const struct walk *walk, const char *name) {
     const struct process *process = walk->call->process;
-    char path[32];
+    char number[16];
     struct stat place;
-    bool is_thread = strcmp(name, "thread-self") == 0;
-    bool is_number = atoi(name) > 0 && atoi(name) == pid_told_to(process, process->tgid);
-    if (!is_thread && !is_number && strcmp(name, "self") != 0) return -1;
-    if (fstat(walk->at, &place) < 0 || place.st_ino != PROC_ROOT || !is_procfs(walk->at)) return -1;
+    snprintf(number, sizeof number, "%d", pid_told_to(process, process->tgid));
+    bool is_name = strcmp(name, "self") == 0 || strcmp(name, "thread-self") == 0;
+    return (is_name || strcmp(name, number) == 0) && fstat(walk->at, &place) == 0 &&
+           place.st_ino == PROC_ROOT && is_procfs(walk->at);
+}
+
+static int open_own_folder(const struct walk *walk, const char *name) {
+    char path[32];
     snprintf(path, sizeof path, "task/%d", walk->call->tid);
-    return open_caller(walk->call, is_thread ? path : ".");
+    return open_caller(walk->call, strcmp(name, "thread-self") == 0 ? path : ".");
 }
 
 /* Returns whether a link of procfs leads to its file without a path, as /proc/PID/fd/N does. */
@@ -115,12 +119,12 @@ static long step(struct walk *walk, const char *name) {
     struct stat found;
     bool is_up = strcmp(name, "..") == 0;
     if (is_up && is_same_place(walk->at, walk->root)) return 0;
-    int own = open_own_folder(walk, name), next = own;
-    if (own < 0) next = open_at(walk, name, O_NOFOLLOW);
+    bool is_own = is_own_folder(walk, name);
+    int next = is_own ? open_own_folder(walk, name) : open_at(walk, name, O_NOFOLLOW);
     if (next < 0) return -errno;
     if (fstat(next, &found) == 0 && S_ISLNK(found.st_mode)) return follow(walk, name, next);
     go_to(walk, next);
-    walk->is_own = own >= 0 || (walk->is_own && !is_up);
+    walk->is_own = is_own || (walk->is_own && !is_up);
     return 0;
 }
 
@@ -138,10 +142,8 @@ static int open_path(const struct call *call, const char *path, bool is_folder) 
     return result < 0 ? (int)result : walk.at;
 }
 
-/* Opens the file of a socket that the caller may connect to. Returns a descriptor of it, or a
- * negative errno. */
-int open_socket_file(const struct call *call, const char *path) {
-    borrow_rights(call);
+static long open_file(const struct call *call, const char *path, int none) {
+    (void)none;
     int file = open_path(call, path, false);
     act_as_caller(true);
     bool may_write = file < 0 || faccessat(file, "", W_OK, AT_EACCESS | AT_EMPTY_PATH) == 0;
@@ -160,25 +162,22 @@ static int open_folder(const struct call *call, const char *path, const char **l
     while (start > 0 && path[start - 1] != '/') start--;
     *last = path + start;
     snprintf(folder, sizeof folder, "%.*s", (int)start, path);
-    borrow_rights(call);
     return open_path(call, folder, true);
 }
 
-/* Makes the file of a socket for the caller. Returns a descriptor of it, or a negative errno. */
-int make_socket_file(const struct call *call, const char *path, mode_t mode) {
+static long make_file(const struct call *call, const char *path, int mode) {
     const char *last;
     int folder = open_folder(call, path, &last);
     if (folder < 0) return folder;
     act_as_caller(true);
-    int file = mknodat(folder, last, S_IFSOCK | mode, 0) < 0 ? -errno : 0;
+    int file = mknodat(folder, last, S_IFSOCK | (mode_t)mode, 0) < 0 ? -errno : 0;
     act_as_caller(false);
     if (file == 0) file = openat(folder, last, O_PATH | O_NOFOLLOW | O_CLOEXEC);
     close(folder);
     return file;
 }
 
-/* Removes the file of a socket, and closes its descriptor. */
-void remove_socket_file(const struct call *call, const char *path, int file) {
+static long remove_file(const struct call *call, const char *path, int file) {
     const char *last;
     struct stat there, here;
     int folder = open_folder(call, path, &last);
@@ -186,5 +185,21 @@ void remove_socket_file(const struct call *call, const char *path, int file) {
         fstat(file, &here) == 0 && there.st_ino == here.st_ino)
         unlinkat(folder, last, 0);
     if (folder >= 0) close(folder);
-    close(file);
+    return close(file);
+}
+
+/* Opens the file of a socket that the caller may connect to. Returns a descriptor of it, or a
+ * negative errno. */
+int open_socket_file(const struct call *call, const char *path) {
+    return (int)act_for_caller(call, open_file, path, 0);
+}
+
+/* Makes the file of a socket for the caller. Returns a descriptor of it, or a negative errno. */
+int make_socket_file(const struct call *call, const char *path, mode_t mode) {
+    return (int)act_for_caller(call, make_file, path, (int)mode);
+}
+
+/* Removes the file of a socket, and closes its descriptor. */
+void remove_socket_file(const struct call *call, const char *path, int file) {
+    act_for_caller(call, remove_file, path, file);
 }

@@ -11,8 +11,8 @@ void *copy_of(const void *value, size_t size) {
     return memcpy(copy, value, size);
 }
 
-/* Returns a new descriptor of the supervisor, or closes it where fewer than `count` would be left for
- * other uses. Then the error is EMFILE. */
+/* Returns a new descriptor of the supervisor, or closes it where fewer than `count` would be left
+ * for other uses. Then the error is EMFILE. */
 int keep_back(int host, int count) {
     if (host < 0 || host < sysconf(_SC_OPEN_MAX) - count) return host;
     close(host);
@@ -31,9 +31,11 @@ struct file *file_at(uint64_t ino) {
     struct file *it;
     LIST_FOREACH(it, slot, entries)
         if (it->ino == ino) return it;
-    struct file file = {.ino = ino, .kind = state_of(ino).kind, .host = -1, .path = -1};
+    struct file file = {.ino = ino, .kind = state_of(ino).kind, .host = -1, .path = -1,
+                        .low_water = 1};
     if (file.kind == JW_NO_FILE) return NULL;
     it = copy_of(&file, sizeof file);
+    TAILQ_INIT(&it->queue);
     LIST_INSERT_HEAD(slot, it, entries);
     return it;
 }
@@ -78,14 +80,16 @@ void reopen_placeholder(struct file *file) {
     file->host = hosts[0];
 }
 
-/* Makes the bytes in the placeholder as many as the socket has messages. */
+/* Makes the bytes in the placeholder as many as the layer has messages for the socket. One stays as
+ * long as a message is held back. */
 void refresh(struct file *file) {
-    struct jw_file state = state_of(file->ino);
-    const struct file *peer = peer_of(file);
+    uint64_t messages = state_of(file->ino).messages;
+    uint64_t count = messages > 0 ? messages : file->held != NULL;
+    const struct file *peer = file->tokens < count ? peer_of(file) : NULL;
     char token;
-    while (file->tokens < state.messages && peer != NULL &&
+    while (file->tokens < count && peer != NULL &&
            send(peer->host, "", 1, MSG_DONTWAIT | MSG_NOSIGNAL) == 1)
         file->tokens++;
-    while (file->tokens > state.messages && recv(file->host, &token, 1, MSG_DONTWAIT) == 1)
+    while (file->tokens > count && recv(file->host, &token, 1, MSG_DONTWAIT) == 1)
         file->tokens--;
 }

@@ -3,7 +3,9 @@
 #include <linux/sched.h>
 #include <sys/epoll.h>
 
-enum { MOST_TEXT = 1 << 20 }; /* A status with 65,536 groups has less. */
+enum { MOST_TEXT = 1 << 20, MOST_LOOKS = 100 }; /* A status with 65,536 groups is shorter. */
+enum { NEW_NAMESPACES = CLONE_NEWUSER | CLONE_NEWNET | CLONE_NEWPID };
+enum { THREAD_PIDFD = O_EXCL }; /* PIDFD_THREAD of Linux 6.9. */
 
 struct process_list processes = LIST_HEAD_INITIALIZER(processes);
 
@@ -84,7 +86,7 @@ bool read_status(pid_t tid, struct status *out) {
 /* Reads once more what a process is. */
 void refresh_process(struct process *process) {
     read_status(process->tgid, &process->status);
-    process->user_namespace = namespace_of(process->tgid, "user");
+    read_namespaces(process);
     forget_credentials(process);
 }
 
@@ -104,13 +106,41 @@ void bind_process(struct process *process, pid_t tgid) {
     close(process->spare);
     process->spare = -1;
     process->tgid = tgid;
-    process->pid_namespace = namespace_of(tgid, "pid");
+    read_namespaces(process);
     process->table = opendir(path);
     process->pidfd = (int)syscall(SYS_pidfd_open, tgid, 0);
     if (process->table == NULL || epoll_ctl(watches, EPOLL_CTL_ADD, process->pidfd, &event) < 0)
         forget_process(process);
     else
         note_pids(process);
+}
+
+/* Opens the table by the first thread that shows it: one that is over shows none. Returns false
+ * where all are over. */
+bool find_table(struct process *process) {
+    char path[64];
+    uint32_t size = 0; /* Of the thread's table. */
+    snprintf(path, sizeof path, "/proc/%d/task", process->tgid);
+    DIR *threads = opendir(path), *table = NULL;
+    if (threads == NULL) return false;
+    for (struct dirent *it; table == NULL && (it = readdir(threads)) != NULL;) {
+        pid_t tid = atoi(it->d_name);
+        if (read_numbers(read_all(tid, "status"), "FDSize", &size, 1) == 0 || size == 0) continue;
+        snprintf(path, sizeof path, "/proc/%d/task/%d/fd", process->tgid, tid);
+        if ((table = opendir(path)) == NULL) continue;
+        close(process->thread);
+        process->thread = (int)syscall(SYS_pidfd_open, tid, THREAD_PIDFD);
+        closedir(process->table);
+        process->table = table;
+    }
+    closedir(threads);
+    return table != NULL;
+}
+
+/* Opens a descriptor of a process in unixbox. */
+int copy_descriptor(const struct process *process, int fd) {
+    int owner = process->thread >= 0 ? process->thread : process->pidfd;
+    return (int)syscall(SYS_pidfd_getfd, owner, fd, 0);
 }
 
 static void exit_process(struct process *process) {
@@ -124,6 +154,7 @@ void forget_process(struct process *process) {
     wake(EVERYONE); /* Its calls end. */
     close(process->pidfd);
     if (process->spare >= 0) close(process->spare);
+    if (process->thread >= 0) close(process->thread);
     forget_credentials(process);
     if (process->table != NULL) closedir(process->table);
     free(process);
@@ -152,6 +183,8 @@ struct process *process_of(pid_t tid) {
 long serve_fork(struct call *call) {
     uint64_t flags = call->number == SYS_clone ? call->args[0] : 0;
     if (call->number == SYS_clone3) read_memory(call, &flags, call->args[0], sizeof flags);
+    struct namespaces namespaces = call->process->namespaces;
+    namespaces.is_stale = namespaces.is_left || (flags & NEW_NAMESPACES) != 0;
     flags &= CLONE_THREAD | CLONE_FILES | CLONE_PARENT;
     bool is_thread = flags == (CLONE_THREAD | CLONE_FILES); /* No others may share a table. */
     call->process->has_threads |= is_thread;
@@ -159,15 +192,18 @@ long serve_fork(struct call *call) {
     sync_table(call->process);
     long pid = record(call->pid, jw_fork(&engine, call->pid), "fork");
     if (pid < 0) return pid;
-    long result = add_process((uint32_t)pid, call->tid);
+    long result = add_process((uint32_t)pid, call->tid, namespaces);
     return result < 0 ? result : KERNEL_DOES_IT;
 }
 
-/* Threads share their table for good. A new user namespace has other numbers. */
+/* unshare(2) and setns(2): threads share their table for good, and namespaces change. */
 long serve_unshare(struct call *call) {
-    bool is_left = (call->args[0] & CLONE_FILES) && call->process->has_threads;
-    call->process->has_changed |= (call->args[0] & CLONE_NEWUSER) != 0;
-    return is_left ? -EINVAL : KERNEL_DOES_IT;
+    struct process *process = call->process;
+    uint64_t flags = call->number == SYS_unshare ? call->args[0] : NEW_NAMESPACES;
+    if ((flags & CLONE_FILES) && process->has_threads) return -EINVAL;
+    if (!(flags & NEW_NAMESPACES)) return KERNEL_DOES_IT;
+    process->has_changed = process->namespaces.is_stale = process->namespaces.is_left = true;
+    return KERNEL_DOES_IT;
 }
 
 /* Without privileges, nothing of a program that is not dumpable can be read: it stays dumpable. */
@@ -176,9 +212,35 @@ long serve_prctl(struct call *call) {
     return is_hiding && geteuid() != 0 ? 0 : KERNEL_DOES_IT;
 }
 
+/* Looks what exec(2) has closed where the new program has made no call yet: it may make none. */
+void look_after_exec(void) {
+    struct process *it;
+    LIST_FOREACH(it, &processes, entries) {
+        if (it->looks == 0 || it->is_over) continue;
+        it->looks = it->has_changed ? it->looks - 1 : 0;
+        if (!it->has_changed) continue;
+        sync_table(it);
+        settle(false);
+        it->has_changed = true;
+    }
+}
+
+/* Whether a thread is at an exec(2) that ends others. Meanwhile the table may look empty. */
+bool is_executing(struct process *process) {
+    char path[64];
+    if (process->executor == 0) return false;
+    snprintf(path, sizeof path, "/proc/%d/task/%d", process->tgid, process->executor);
+    if (access(path, F_OK) < 0) process->executor = 0; /* It is the first thread now. */
+    return process->executor != 0;
+}
+
 /* exec(2), setuid(2) and the like, and exit_group(2), after which other threads may still call. */
 long serve_change(struct call *call) {
+    bool is_exec = call->number == SYS_execve || call->number == SYS_execveat;
+    bool has_threads = call->process->has_threads;
     call->process->has_changed = true;
+    call->process->looks = is_exec && !has_threads ? MOST_LOOKS : 0;
+    call->process->executor = is_exec && has_threads ? call->tid : 0;
     if (call->number == SYS_exit_group) exit_process(call->process);
     return KERNEL_DOES_IT;
 }

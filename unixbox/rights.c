@@ -1,9 +1,12 @@
-/* Rights: unixbox acts on files for a program with what the program may, not with what it may itself
+/* Rights: unixbox acts on files for a program as the program may, not as it may itself
  * (credentials(7), capabilities(7)). Each of its threads has rights of its own, by system calls
  * that the C library would do for all threads. */
 #include "unixbox.h"
 #include <linux/capability.h>
+#include <sched.h>
 #include <sys/fsuid.h>
+#include <sys/mman.h>
+#include <sys/wait.h>
 
 static struct rights {
     uint32_t user, group; /* Those for the file system. */
@@ -11,6 +14,7 @@ static struct rights {
     size_t count;
     gid_t groups[NGROUPS_MAX];
 } own, lent; /* Of unixbox, and of the caller whom it acts for. */
+static bool is_inside; /* This process has entered the caller's user namespace. */
 
 static void read_rights(pid_t tid, struct rights *out) {
     const char *text = read_all(tid, "status");
@@ -44,21 +48,47 @@ static void set_ids(const struct rights *rights) {
     setfsuid(rights->user);
 }
 
-/* Reads the rights of a caller. A user namespace of its own gives it none outside. */
-void borrow_rights(const struct call *call) {
-    if (own.capabilities == 0) read_rights(getpid(), &own);
-    read_rights(call->tid, &lent);
-    if (!shares_users(call->process)) lent.capabilities = 0;
-}
-
-/* Acts with the rights that were borrowed, or with those of unixbox. */
+/* Acts with the rights of the caller, or with those of unixbox. */
 void act_as_caller(bool as_caller) {
     static _Thread_local bool is_caller;
-    if (as_caller == is_caller || own.capabilities == 0 || is_same(&own, &lent)) return;
+    if (is_inside) set_capabilities(as_caller ? lent.capabilities : UINT64_MAX);
+    if (is_inside || as_caller == is_caller || is_same(&own, &lent)) return;
     is_caller = as_caller;
     if (!as_caller) set_capabilities(own.capabilities);
     set_ids(as_caller ? &lent : &own);
     if (as_caller) set_capabilities(lent.capabilities);
+}
+
+/* Lets a process of its own act, which has entered the caller's user namespace: the caller's
+ * capabilities hold there alone. It opens descriptors in unixbox's table. */
+static long act_inside(const struct call *call, action *act, const char *path, int value) {
+    static long *result;
+    const int access = PROT_READ | PROT_WRITE;
+    if (result == NULL)
+        result = mmap(NULL, sizeof *result, access, MAP_SHARED | MAP_ANONYMOUS, -1, 0);
+    if (result == MAP_FAILED) abort();
+    int namespace = open_namespace(call->tid, "user");
+    *result = -EACCES;
+    pid_t pid = (pid_t)syscall(SYS_clone, CLONE_FILES | SIGCHLD, NULL, NULL, NULL, NULL);
+    if (pid == 0) {
+        set_ids(&lent);
+        is_inside = setns(namespace, CLONE_NEWUSER) == 0;
+        if (is_inside) *result = act(call, path, value);
+        _exit(0);
+    }
+    if (pid > 0) waitpid(pid, NULL, 0);
+    close(namespace);
+    return *result;
+}
+
+/* Acts on a path for a caller, which has rights of its own. */
+long act_for_caller(const struct call *call, action *act, const char *path, int value) {
+    static bool is_own_known;
+    if (!is_own_known) read_rights(getpid(), &own);
+    is_own_known = true;
+    read_rights(call->tid, &lent);
+    if (!shares_users(call->process)) return act_inside(call, act, path, value);
+    return act(call, path, value);
 }
 
 static bool protects_links(void) {

@@ -3,8 +3,8 @@
 
 enum { TOKEN = 768 }; /* What a byte takes of a buffer (SIOCOUTQ). */
 enum { KEY_ROOM = JW_MAX_NAME + 1, PATH_START = offsetof(struct sockaddr_un, sun_path) };
-enum { PASS_PIDFD = 76, PEER_PIDFD = 77 }; /* SO_PASSPIDFD and SO_PEERPIDFD of Linux 6.5. */
 
+static bool has_shut_listeners; /* One was shut down at some time. */
 static const struct address unnamed = {{.sun_family = AF_UNIX}, PATH_START};
 
 /* A socket is writable while at most a quarter of twice this number is taken. */
@@ -13,14 +13,28 @@ static void size_buffer(int host) {
     setsockopt(host, SOL_SOCKET, SO_SNDBUF, &bytes, sizeof bytes);
 }
 
+/* Gives a pair to the caller. Its numbers are written first: no descriptor can be taken back. */
+static long give_pair(struct call *call, uint32_t *fds, bool closes_on_exec) {
+    const uint32_t expected[] = {fds[0], fds[1]};
+    if (!write_memory(call, call->args[3], fds, sizeof expected)) {
+        close_fd(call->process, fds[0]);
+        close_fd(call->process, fds[1]);
+        return -EFAULT;
+    }
+    long result = install(call, fds, 2, closes_on_exec);
+    if (result < 2) return result < 0 ? result : -EMFILE;
+    if (memcmp(fds, expected, sizeof expected) == 0) return 0;
+    return write_memory(call, call->args[3], fds, sizeof expected) ? 0 : -EFAULT;
+}
+
 /* Opens the placeholders of a socket or a pair. Of the supervisor's descriptors some are kept back:
  * without them, the error is ENFILE. */
 static long open_placeholders(const struct call *call, bool is_pair, int *hosts) {
-    int flags = (int)call->args[1] | SOCK_CLOEXEC;
+    int flags = (int)call->args[1] | SOCK_CLOEXEC, protocol = (int)call->args[2];
     hosts[0] = hosts[1] = -1;
     if (options.networks) setns(call->process->pidfd, CLONE_NEWNET); /* To be counted there. */
-    int result = is_pair ? socketpair(AF_UNIX, flags, 0, hosts)
-                         : (hosts[0] = socket(AF_UNIX, flags, 0));
+    int result = is_pair ? socketpair(AF_UNIX, flags, protocol, hosts)
+                         : (hosts[0] = socket(AF_UNIX, flags, protocol));
     if (result >= 0 && keep_back(is_pair ? hosts[1] : hosts[0], KEPT_FOR_PROCESSES) >= 0) return 0;
     if (is_pair && result >= 0) close(hosts[0]);
     return errno == EMFILE ? -ENFILE : -errno;
@@ -32,9 +46,9 @@ long serve_socket(struct call *call) {
     uint32_t kind = is_stream ? JW_STREAM : JW_SEQPACKET;
     size_t count = is_pair ? 2 : 1;
     if (call->args[0] != AF_UNIX) return KERNEL_DOES_IT;
-    bool is_served = is_stream || type == SOCK_SEQPACKET ||
-                     (type == SOCK_DGRAM && is_pair && options.datagrams);
-    if ((call->args[2] & ~(uint64_t)PF_UNIX) || !is_served) return -EPROTONOSUPPORT;
+    if (flags & ~(0xf | SOCK_CLOEXEC | SOCK_NONBLOCK)) return -EINVAL;
+    bool is_datagram = type == SOCK_DGRAM || type == SOCK_RAW;
+    if (is_datagram && !(is_pair && options.datagrams)) return -EPROTONOSUPPORT;
     long result = open_placeholders(call, is_pair, hosts);
     if (result < 0) return result;
     sync_table(call->process);
@@ -49,14 +63,14 @@ long serve_socket(struct call *call) {
     uint32_t fds[] = {is_pair ? pair.first : (uint32_t)result, pair.second};
     for (size_t i = 0; i < count; i++) {
         struct file *file = file_of(call->process, fds[i]);
+        file->network = call->process->namespaces.network;
         if (is_pair) set_peer_process(file, call->process);
         if (is_pair) file->peer = unnamed;
         size_buffer(file->host = hosts[i]);
     }
-    result = install(call, fds, count, flags & SOCK_CLOEXEC);
-    if (result < (long)count) return result < 0 ? result : -EMFILE;
-    if (!is_pair) return fds[0];
-    return write_memory(call, call->args[3], fds, sizeof fds) ? 0 : -EFAULT;
+    if (is_pair) return give_pair(call, fds, flags & SOCK_CLOEXEC);
+    result = install(call, fds, 1, flags & SOCK_CLOEXEC);
+    return result < 0 ? result : fds[0];
 }
 
 /* A name as a call gives it, and the layer's. */
@@ -80,19 +94,20 @@ static long read_name(const struct call *call, struct name *out) {
     return 0;
 }
 
-/* Gives a name its key: of a pathname, the device and the inode of the socket's file. An abstract
- * name has any bytes, and each type of sockets its own: the key is a hash (FNV-1a). */
-static long find_key(struct name *name, uint32_t kind, int file) {
+/* Gives a name its key: of a pathname, the device and the inode of its file. An abstract name has
+ * any bytes, and each network namespace and each type its own: the key is a hash (FNV-1a). */
+static long find_key(struct name *name, const struct file *socket, int file) {
     const uint8_t *bytes = (const uint8_t *)&name->address.name;
     uint64_t hash = 14695981039346656037u;
     struct stat found = {.st_mode = S_IFSOCK};
     if (file >= 0 && fstat(file, &found) < 0) return -errno;
     for (socklen_t i = PATH_START; i < name->address.length; i++)
         hash = (hash ^ bytes[i]) * 1099511628211u;
+    hash = (hash ^ socket->network) * 1099511628211u;
     if (file >= 0)
         sprintf(name->key, "f.%lx.%lx", found.st_dev, found.st_ino);
     else
-        sprintf(name->key, "%c.%016lx", kind == JW_STREAM ? 's' : 'q', hash);
+        sprintf(name->key, "%c.%016lx", socket->kind == JW_STREAM ? 's' : 'q', hash);
     return S_ISSOCK(found.st_mode) ? 0 : -ECONNREFUSED;
 }
 
@@ -131,7 +146,7 @@ long serve_bind(struct call *call) {
         name.address.length = PATH_START + 6;
     }
     if (name.path[0] != '\0' && (file = make_file(call, &name)) < 0) return file;
-    result = find_key(&name, call->file->kind, file);
+    result = find_key(&name, call->file, file);
     if (result == 0) {
         int64_t answer = jw_bind(&engine, call->pid, call->fd, name.key, strlen(name.key));
         result = record(call->pid, answer, "bind %u %s", call->fd, name.key);
@@ -151,28 +166,6 @@ long serve_name(struct call *call) {
     return write_address(call, call->args[1], call->args[2], is_peer ? &file->peer : own);
 }
 
-/* setsockopt(2) of SO_PASSCRED. */
-static long pass_users(const struct call *call) {
-    int passes = 0;
-    if ((int)call->args[4] < (int)sizeof passes) return -EINVAL;
-    if (!read_memory(call, &passes, call->args[3], sizeof passes)) return -EFAULT;
-    setsockopt(call->file->host, SOL_SOCKET, SO_PASSCRED, &passes, sizeof passes);
-    call->file->passes_users = passes != 0;
-    return 0;
-}
-
-/* getsockopt(2) and setsockopt(2). Placeholders keep their buffers. */
-long serve_option(struct call *call) {
-    bool is_set = call->number == SYS_setsockopt;
-    int option = (int)call->args[2];
-    if ((int)call->args[1] != SOL_SOCKET) return KERNEL_DOES_IT;
-    if (is_set && (option == SO_SNDBUF || option == SO_SNDBUFFORCE)) return 0;
-    if (is_set && option == SO_PASSCRED) return pass_users(call);
-    if (option == SO_PEEK_OFF || option == PASS_PIDFD || option == PEER_PIDFD) return -ENOPROTOOPT;
-    if (is_set || (option != SO_PEERCRED && option != SO_PEERGROUPS)) return KERNEL_DOES_IT;
-    return serve_peer(call);
-}
-
 long serve_listen(struct call *call) {
     struct sockaddr any = {.sa_family = AF_UNIX};
     uint32_t most = (uint32_t)call->args[1] + 1; /* Linux lets one more wait, too. */
@@ -188,6 +181,21 @@ long serve_listen(struct call *call) {
     return 0;
 }
 
+/* Whether a listener of this name has shut its receives down: then it takes no connections. The
+ * layer does not know it. */
+static bool is_shut(const struct name *name) {
+    const struct file *it;
+    struct name other;
+    for (int i = 0; has_shut_listeners && i < FILE_SLOTS; i++)
+        LIST_FOREACH(it, &files[i], entries) {
+            if (!it->listens || !(it->shut & 1)) continue;
+            other.address = it->own;
+            find_key(&other, it, it->path);
+            if (strcmp(other.key, name->key) == 0) return true;
+        }
+    return false;
+}
+
 long serve_connect(struct call *call) {
     struct name name;
     struct file *client = call->file, *listener = client;
@@ -199,8 +207,9 @@ long serve_connect(struct call *call) {
     if (result < 0) return result;
     int file = name.path[0] != '\0' ? open_socket_file(call, name.path) : -1;
     if (name.path[0] != '\0' && file < 0) return file;
-    result = find_key(&name, client->kind, file);
+    result = find_key(&name, client, file);
     if (file >= 0) close(file);
+    if (result == 0 && is_shut(&name)) result = -ECONNREFUSED;
     if (result < 0) return result;
     int64_t answer = jw_connect(&engine, call->pid, call->fd, name.key, strlen(name.key));
     result = record(call->pid, answer, "connect %u %s", call->fd, name.key);
@@ -215,6 +224,7 @@ long serve_connect(struct call *call) {
     embryo->own = client->peer = listener->own;
     embryo->peer = client->own.length > 0 ? client->own : unnamed;
     embryo->passes_users = listener->passes_users;
+    embryo->network = client->network;
     set_peer(client, listener->peer_user, listener->peer_groups);
     set_peer_process(embryo, call->process);
     return 0;
@@ -223,19 +233,24 @@ long serve_connect(struct call *call) {
 long serve_accept(struct call *call) {
     int flags = call->number == SYS_accept4 ? (int)call->args[3] : 0;
     struct pollfd ask = {call->file->host, POLLIN, 0};
-    if ((call->file->shut & 1) || (flags & ~(SOCK_CLOEXEC | SOCK_NONBLOCK))) return -EINVAL;
+    if (flags & ~(SOCK_CLOEXEC | SOCK_NONBLOCK)) return -EINVAL;
     sync_table(call->process);
     long result = record(call->pid, jw_accept(&engine, call->pid, call->fd), "accept %u", call->fd);
+    if (result == -EAGAIN && (call->file->shut & 1)) return -EINVAL; /* None is to come. */
     if (result < 0) return result == -EAGAIN ? wait_for(call, 0, call->file->ino) : result;
     uint32_t fd = (uint32_t)result;
     struct file *file = file_of(call->process, fd);
     file->is_embryo = false;
+    int host = -1;
     if (poll(&ask, 1, 0) == 1) /* Connections wait in the order of the layer. */
-        file->host = keep_back(accept4(ask.fd, NULL, NULL, flags | SOCK_CLOEXEC), KEPT_FOR_PROCESSES);
+        host = accept4(ask.fd, NULL, NULL, flags | SOCK_CLOEXEC);
+    file->host = keep_back(host, KEPT_FOR_PROCESSES);
     if (file->host >= 0) size_buffer(file->host);
-    result = install(call, &fd, 1, flags & SOCK_CLOEXEC);
+    bool has_place = call->args[1] != 0;
+    result = has_place ? write_address(call, call->args[1], call->args[2], &file->peer) : 0;
+    if (result < 0) close_fd(call->process, fd); /* Linux loses the connection, too. */
+    if (result == 0) result = install(call, &fd, 1, flags & SOCK_CLOEXEC);
     if (result < 0) return file->host < 0 ? -ENFILE : result;
-    if (call->args[1] != 0) write_address(call, call->args[1], call->args[2], &file->peer);
     return fd;
 }
 
@@ -243,6 +258,7 @@ long serve_accept(struct call *call) {
 long serve_shutdown(struct call *call) {
     if (shutdown(call->file->host, (int)call->args[1]) < 0) return -errno;
     call->file->shut |= (int)call->args[1] + 1;
-    wake(EVERYONE);
+    has_shut_listeners = has_shut_listeners || (call->file->listens && (call->file->shut & 1));
+    wake_ends(call->file);
     return 0;
 }

@@ -5,6 +5,7 @@
 #include "must.h"
 #include <fcntl.h>
 #include <limits.h>
+#include <linux/close_range.h>
 #include <pthread.h>
 #include <sched.h>
 #include <stdint.h>
@@ -49,6 +50,33 @@ static const char *check_flags(void) {
     MUST(accepted >= 0 && close(accepted) == 0);
     close_both((int[]){listener, client});
     return "unknown flags are refused, and the connection is still there";
+}
+
+/* What is no type or no protocol of a socket has an error of its own. */
+static const char *check_types(void) {
+    MUST(socket(AF_UNIX, 99, 0) < 0 && errno == EINVAL);
+    MUST(socket(AF_UNIX, 11, 0) < 0 && errno == EINVAL);
+    MUST(socket(AF_UNIX, SOCK_RDM, 0) < 0 && errno == ESOCKTNOSUPPORT);
+    MUST(socket(AF_UNIX, SOCK_STREAM, 2) < 0 && errno == EPROTONOSUPPORT);
+    MUST(socketpair(AF_UNIX, SOCK_RDM, 2, (int[2]){0}) < 0 && errno == EPROTONOSUPPORT);
+    return "each wrong type or protocol has its error";
+}
+
+/* A listener that has shut down its receives takes no connection but those that wait. */
+static const char *check_shutdown(void) {
+    const struct sockaddr_un name = {.sun_family = AF_UNIX, .sun_path = "\0shutdown"};
+    const struct sockaddr *place = (const struct sockaddr *)&name;
+    int listener = socket(AF_UNIX, SOCK_STREAM, 0), client = socket(AF_UNIX, SOCK_STREAM, 0);
+    MUST(bind(listener, place, sizeof name) == 0 && listen(listener, 2) == 0);
+    MUST(shutdown(listener, SHUT_WR) == 0 && connect(client, place, sizeof name) == 0);
+    int late = socket(AF_UNIX, SOCK_STREAM, 0), packet = socket(AF_UNIX, SOCK_SEQPACKET, 0);
+    MUST(shutdown(listener, SHUT_RD) == 0 && connect(late, place, sizeof name) < 0);
+    MUST(errno == ECONNREFUSED && connect(packet, place, sizeof name) < 0);
+    MUST(errno == ECONNREFUSED && close(late) == 0 && (late = accept(listener, NULL, NULL)) >= 0);
+    MUST(accept(listener, NULL, NULL) < 0 && errno == EINVAL);
+    close_both((int[]){late, packet});
+    close_both((int[]){listener, client});
+    return "a listener that is shut down takes no connection";
 }
 
 /* More room than any message needs is room enough; a negative length is refused. */
@@ -101,6 +129,37 @@ static const char *check_sendfile(void) {
     return "sendfile moves the bytes of a socket, or leaves them";
 }
 
+/* close_range(2) closes sockets and files, or marks them for the next program. */
+static const char *check_range(void) {
+    int pair[2], ends[2];
+    make_pair(pair);
+    MUST(pipe(ends) == 0);
+    MUST(syscall(SYS_close_range, ends[0], pair[0], 0) < 0 && errno == EINVAL);
+    MUST(syscall(SYS_close_range, pair[1], ends[0], CLOSE_RANGE_CLOEXEC) == 0);
+    MUST(fcntl(pair[1], F_GETFD) == FD_CLOEXEC && write(pair[1], "x", 1) == 1);
+    MUST(syscall(SYS_close_range, pair[1], ends[0], 0) == 0 && fcntl(pair[1], F_GETFD) < 0);
+    MUST(read(pair[0], text, 2) == 1 && read(pair[0], text, 1) == 0);
+    MUST(close(pair[0]) == 0 && close(ends[1]) == 0);
+    make_pair(pair);
+    close_both(pair);
+    return "a range of descriptors is closed";
+}
+
+/* setrlimit(2) itself limits descriptors, and all else. */
+static const char *check_old_limit(void) {
+    int pair[2];
+    pid_t child = fork();
+    if (child == 0) {
+        MUST(syscall(SYS_setrlimit, RLIMIT_CORE, &(struct rlimit){0, 0}) == 0);
+        MUST(syscall(SYS_setrlimit, RLIMIT_NOFILE, &(struct rlimit){LIMIT, LIMIT}) == 0);
+        while (socketpair(AF_UNIX, SOCK_STREAM, 0, pair) == 0)
+            continue;
+        _exit(errno != EMFILE || pair[1] >= LIMIT);
+    }
+    must_exit(child);
+    return "the call of old sets limits";
+}
+
 static void *leave_table(void *pair) {
     int result = unshare(CLONE_FILES);
     MUST(result == 0 || errno == EINVAL);
@@ -136,10 +195,14 @@ static const char *check_dumpable(void) {
 int main(void) {
     setvbuf(stdout, NULL, _IOLBF, 0); /* No child inherits a line. */
     printf("flags: %s\n", check_flags());
+    printf("types: %s\n", check_types());
+    printf("shutdown: %s\n", check_shutdown());
     printf("lengths: %s\n", check_lengths());
     printf("limit: %s\n", check_limit());
     printf("files: %s\n", check_files());
     printf("sendfile: %s\n", check_sendfile());
+    printf("range: %s\n", check_range());
+    printf("old limit: %s\n", check_old_limit());
     printf("unshare: %s\n", check_unshare());
     printf("dumpable: %s\n", check_dumpable());
     return 0;

@@ -11,7 +11,7 @@
 #include <sys/wait.h>
 #include <unistd.h>
 
-enum { PAUSE = 20000, ROUNDS = 5, PAIRS = 600 }; /* The first in microseconds. */
+enum { PAUSE = 20000, ROUNDS = 5, PAIRS = 600, MANY = 100 }; /* The first in microseconds. */
 
 static int ends[2], others[2];
 
@@ -92,21 +92,24 @@ static const char *check_threads(void) {
     return "children of two threads send";
 }
 
-/* A child is the layer's, or is not made, where no further socket can be. */
+/* A child is known, or is not made, where no further socket can be. */
 static const char *check_full(void) {
     static int pairs[PAIRS][2];
     char byte;
     int count = 0;
     while (count < PAIRS && socketpair(AF_UNIX, SOCK_STREAM, 0, pairs[count]) == 0) count++;
     MUST(count < PAIRS && (errno == EMFILE || errno == ENFILE));
-    for (int i = 0; i < ROUNDS; i++) {
-        pid_t child = fork();
-        if (child == 0) send_late(ends[1]);
-        MUST(child > 0 && read(ends[0], &byte, 1) == 1);
-        must_exit(child);
+    pid_t children[MANY];
+    int made = 0;
+    for (; made < MANY && (children[made] = fork()) >= 0; made++)
+        if (children[made] == 0) send_late(ends[1]);
+    MUST(made == MANY || (made > 0 && errno == EAGAIN));
+    while (made > 0) {
+        MUST(read(ends[0], &byte, 1) == 1);
+        must_exit(children[--made]);
     }
     while (count > 0) MUST(close(pairs[--count][0]) == 0 && close(pairs[count][1]) == 0);
-    return "a child sends where no further socket can be made";
+    return "children that are made send where no further socket can be";
 }
 
 int main(int argc, char **argv) {

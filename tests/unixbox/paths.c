@@ -6,6 +6,7 @@
 #include "must.h"
 #include <fcntl.h>
 #include <grp.h>
+#include <sched.h>
 #include <stdbool.h>
 #include <sys/socket.h>
 #include <sys/stat.h>
@@ -170,6 +171,47 @@ static const char *check_protection(void) {
     return line;
 }
 
+static void write_file(const char *path, const char *format, unsigned number) {
+    FILE *file = fopen(path, "w");
+    MUST(file != NULL && fprintf(file, format, number) > 0 && fclose(file) == 0);
+}
+
+/* Is root of a user namespace, where that may be: over what is its own. */
+static void use_namespace(void) {
+    const unsigned user = geteuid(), group = getegid();
+    if (unshare(CLONE_NEWUSER) < 0) return;
+    write_file("/proc/self/setgroups", "deny%.0u", 0);
+    write_file("/proc/self/uid_map", "0 %u 1", user);
+    write_file("/proc/self/gid_map", "0 %u 1", group);
+    MUST(mkdir("hidden", 0) == 0 && binds("hidden/new", 0) && !connects("hidden/new", 0));
+    MUST(errno == ECONNREFUSED && connects("../../proc/self/cwd/listener", 0));
+    MUST(unlink("hidden/new") == 0 && rmdir("hidden") == 0 && !binds("/sys/new", 0));
+    printf("namespace: %s\n", strerror(errno));
+}
+
+static bool names_abstract(int (*call)(int, const struct sockaddr *, socklen_t), int on) {
+    const struct sockaddr_un name = {.sun_family = AF_UNIX, .sun_path = "\0paths"};
+    return call(on, (const struct sockaddr *)&name, sizeof name) == 0;
+}
+
+static void use_network(void) {
+    int client = new_socket(), same = new_socket();
+    if (unshare(CLONE_NEWUSER | CLONE_NEWNET) < 0) return;
+    int other = new_socket();
+    MUST(!names_abstract(connect, other) && errno == ECONNREFUSED && names_abstract(bind, other));
+    MUST(!names_abstract(bind, same) && errno == EADDRINUSE && names_abstract(connect, client));
+    MUST(close(client) == 0 && close(same) == 0 && close(other) == 0);
+}
+
+/* A socket keeps the network namespace that it was made in. Each has its abstract names. */
+static const char *check_network(void) {
+    int listener = new_socket();
+    MUST(names_abstract(bind, listener) && listen(listener, 2) == 0);
+    in_child(use_network);
+    MUST(close(listener) == 0);
+    return "a network namespace has its own abstract names";
+}
+
 static void leave_root(void) {
     MUST(chroot(folder) == 0 && binds("/jail/link/new", 0) && access("/run/new", F_OK) == 0);
     MUST(binds("/../../run/other", 0) && access("/run/other", F_OK) == 0);
@@ -195,6 +237,8 @@ int main(void) {
     printf("mode: %s\n", check_mode());
     printf("rights: %s\n", check_rights());
     printf("protection: %s\n", check_protection());
+    in_child(use_namespace);
+    printf("network: %s\n", check_network());
     printf("root: %s\n", check_root());
     MUST(close(listener) == 0 && unlink("listener") == 0 && rmdir(folder) == 0);
     return 0;

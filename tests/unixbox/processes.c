@@ -3,6 +3,8 @@
  * Each check prints a line, the same natively and under unixbox. The status is 0 if all hold. */
 #define _GNU_SOURCE
 #include "must.h"
+#include <fcntl.h>
+#include <poll.h>
 #include <pthread.h>
 #include <signal.h>
 #include <sys/prctl.h>
@@ -10,7 +12,8 @@
 #include <sys/wait.h>
 #include <unistd.h>
 
-enum { CHILDREN = 801, HUNDRED = 100, PAUSE = 100000 }; /* Microseconds. */
+enum { CHILDREN = 801, HUNDRED = 100 };
+enum { PAUSE = 100000, LONG_PAUSE = 30000 }; /* Microseconds, milliseconds. */
 
 static int way[2];
 
@@ -41,6 +44,8 @@ static const char *check_children(void) {
 /* The sockets of a child that was killed are closed once its parent has waited for it. */
 static const char *check_kill(void) {
     for (int round = 0; round < 20; round++) {
+        struct pollfd ask = {-1, POLLIN, 0};
+        siginfo_t told;
         char byte;
         MUST(socketpair(AF_UNIX, SOCK_STREAM, 0, way) == 0);
         pid_t child = fork();
@@ -49,7 +54,13 @@ static const char *check_kill(void) {
             _exit(read(way[1], &byte, 1) != 1);
         }
         MUST(close(way[1]) == 0 && read(way[0], &byte, 1) == 1);
-        MUST(kill(child, SIGKILL) == 0 && waitpid(child, NULL, 0) == child);
+        ask.fd = way[0];
+        MUST(kill(child, SIGKILL) == 0);
+        if (round % 2 == 0)
+            MUST(waitid(P_PID, (id_t)child, &told, WEXITED) == 0 && told.si_status == SIGKILL);
+        else
+            MUST(waitpid(child, NULL, 0) == child);
+        MUST(poll(&ask, 1, 0) == 1 && ask.revents == (POLLIN | POLLHUP));
         MUST(send(way[0], "x", 1, MSG_NOSIGNAL) < 0 && errno == EPIPE && close(way[0]) == 0);
     }
     return "the sockets of a killed child are closed after the wait for it";
@@ -77,6 +88,35 @@ static const char *check_name(void) {
     return "a receive waits, whatever the name of its thread";
 }
 
+/* Takes the end of any child. */
+static void reap(int number) {
+    (void)number;
+    while (waitpid(-1, NULL, WNOHANG) > 0)
+        continue;
+}
+
+/* A wait has the end of its child also where the signal's handler looks for it. A stop ends it, if
+ * it asks for that. */
+static const char *check_wait(void) {
+    struct sigaction action = {.sa_handler = reap, .sa_flags = SA_RESTART}, usual;
+    int status;
+    MUST(sigaction(SIGCHLD, &action, &usual) == 0);
+    for (int round = 0; round < 5; round++) {
+        pid_t child = fork();
+        if (child == 0)
+            _exit(usleep(PAUSE / 5) != 0);
+        must_exit(child);
+    }
+    MUST(sigaction(SIGCHLD, &usual, NULL) == 0);
+    pid_t child = fork();
+    if (child == 0)
+        _exit(raise(SIGSTOP));
+    MUST(waitpid(child, &status, WUNTRACED) == child && WIFSTOPPED(status));
+    MUST(kill(child, SIGCONT) == 0 && waitpid(getppid(), NULL, 0) < 0 && errno == ECHILD);
+    must_exit(child);
+    return "a wait has the end of its child";
+}
+
 static void ignore(int number) {
     (void)number;
 }
@@ -98,7 +138,7 @@ static const char *check_signal(void) {
     MUST(pthread_create(&other, NULL, receive, NULL) == 0);
     pid_t child = fork();
     if (child == 0) {
-        MUST(usleep(PAUSE) == 0 && kill(getppid(), SIGUSR1) == 0);
+        MUST(usleep(3 * PAUSE) == 0 && kill(getppid(), SIGUSR1) == 0);
         MUST(usleep(PAUSE) == 0 && write(way[0], "x", 1) == 1);
         _exit(0);
     }
@@ -118,19 +158,70 @@ static void *start_cat(void *none) {
 /* A receive ends with its thread, so the message is the next program's. */
 static const char *check_exec(void) {
     pthread_t other;
+    int gate[2]; /* exec(2) closes it. */
     char text[8];
     MUST(socketpair(AF_UNIX, SOCK_STREAM | SOCK_CLOEXEC, 0, way) == 0);
+    MUST(pipe2(gate, O_CLOEXEC) == 0);
     pid_t child = fork();
     if (child == 0) {
         MUST(dup2(way[1], STDIN_FILENO) == STDIN_FILENO);
         MUST(pthread_create(&other, NULL, start_cat, NULL) == 0);
         _exit(read(STDIN_FILENO, text, sizeof text) >= 0);
     }
-    MUST(close(way[1]) == 0 && usleep(2 * PAUSE) == 0 && write(way[0], "text", 4) == 4);
-    MUST(shutdown(way[0], SHUT_WR) == 0);
+    MUST(close(way[1]) == 0 && close(gate[1]) == 0 && read(gate[0], text, 1) == 0);
+    MUST(write(way[0], "text", 4) == 4 && shutdown(way[0], SHUT_WR) == 0);
     must_exit(child);
-    MUST(close(way[0]) == 0);
+    MUST(close(way[0]) == 0 && close(gate[0]) == 0);
     return "a receive ends with its thread, and takes nothing from the next program";
+}
+
+/* Answers a byte when the first thread is over. */
+static void *answer(void *none) {
+    char line[64] = "", byte;
+    int pair[2];
+    while (strstr(line, ") Z ") == NULL) {
+        int file = open("/proc/self/stat", O_RDONLY);
+        MUST(read(file, line, sizeof line - 1) > 0 && close(file) == 0);
+    }
+    MUST(socketpair(AF_UNIX, SOCK_STREAM, 0, pair) == 0 && close(pair[0]) == 0);
+    MUST(read(way[1], &byte, 1) == 1 && byte == 'x' && write(way[1], "y", 1) == 1);
+    _exit(close(pair[1]) != 0);
+    return none;
+}
+
+/* A process goes on when its first thread is over. */
+static const char *check_leader(void) {
+    pthread_t other;
+    char byte;
+    MUST(socketpair(AF_UNIX, SOCK_STREAM, 0, way) == 0);
+    pid_t child = fork();
+    if (child == 0) {
+        MUST(pthread_create(&other, NULL, answer, NULL) == 0);
+        pthread_exit(NULL);
+    }
+    MUST(close(way[1]) == 0 && write(way[0], "x", 1) == 1);
+    MUST(read(way[0], &byte, 1) == 1 && byte == 'y' && close(way[0]) == 0);
+    must_exit(child);
+    return "a process goes on when its first thread is over";
+}
+
+/* What an exec(2) closes is closed, though the new program makes no call that concerns it. */
+static const char *check_silence(void) {
+    static char path[4096];
+    ssize_t length = readlink("/proc/self/exe", path, sizeof path - sizeof "pause");
+    char byte;
+    MUST(length > 0 && socketpair(AF_UNIX, SOCK_STREAM | SOCK_CLOEXEC, 0, way) == 0);
+    strcpy(strrchr(path, '/'), "/pause");
+    pid_t child = fork();
+    if (child == 0) {
+        execl(path, path, NULL);
+        _exit(1);
+    }
+    struct pollfd ask = {way[0], POLLIN, 0};
+    MUST(close(way[1]) == 0 && poll(&ask, 1, LONG_PAUSE) == 1 && (ask.revents & POLLHUP));
+    MUST(read(way[0], &byte, 1) == 0 && close(way[0]) == 0);
+    MUST(kill(child, SIGKILL) == 0 && waitpid(child, NULL, 0) == child);
+    return "a program that makes no call keeps no socket that exec closes";
 }
 
 /* A number that an exec(2) has closed is that of the first file of the next program. */
@@ -152,9 +243,12 @@ int main(void) {
     setvbuf(stdout, NULL, _IOLBF, 0); /* No child inherits a line. */
     printf("children: %s\n", check_children());
     printf("kill: %s\n", check_kill());
+    printf("wait: %s\n", check_wait());
     printf("name: %s\n", check_name());
     printf("signal: %s\n", check_signal());
     printf("exec: %s\n", check_exec());
+    printf("leader: %s\n", check_leader());
+    printf("silence: %s\n", check_silence());
     printf("loader: %s\n", check_loader());
     return 0;
 }

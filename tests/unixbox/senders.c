@@ -121,6 +121,32 @@ static const char *check_credentials(int type) {
     return "each message has the credentials of its sender";
 }
 
+/* With SO_PASSCRED a receive ends where another process has sent. The end has no sender: a packet's
+ * receive has no credentials then, and a stream's those of nobody. */
+static const char *check_borders(int type) {
+    _Alignas(struct cmsghdr) char control[CMSG_SPACE(sizeof(struct ucred))];
+    struct iovec part = {text, sizeof text};
+    struct msghdr message = {.msg_iov = &part, .msg_iovlen = 1, .msg_control = control};
+    struct ucred user;
+    int pair[2], status;
+    make_pair(type, pair);
+    MUST(setsockopt(pair[1], SOL_SOCKET, SO_PASSCRED, &(int){1}, sizeof(int)) == 0);
+    pid_t child = fork();
+    if (child == 0)
+        _exit(write(pair[0], "child", 5) != 5);
+    MUST(waitpid(child, &status, 0) == child && status == 0 && write(pair[0], "parent", 6) == 6);
+    MUST(recv(pair[1], text, sizeof text, MSG_PEEK) == 5);
+    MUST(recv(pair[1], text, 11, type == SOCK_STREAM ? MSG_WAITALL : 0) == 5);
+    MUST(recv(pair[1], text, sizeof text, 0) == 6 && memcmp(text, "parent", 6) == 0);
+    message.msg_controllen = sizeof control;
+    MUST(close(pair[0]) == 0 && recvmsg(pair[1], &message, 0) == 0 && message.msg_flags == 0);
+    MUST(message.msg_controllen == (type == SOCK_STREAM ? sizeof control : 0));
+    memcpy(&user, CMSG_DATA((struct cmsghdr *)control), sizeof user);
+    MUST(type == SOCK_SEQPACKET || user.pid == 0);
+    MUST(close(pair[1]) == 0);
+    return "a receive ends where another sends, and the end has no sender";
+}
+
 /* A program without privileges claims no other user. */
 static const char *check_claim(int type) {
     _Alignas(struct cmsghdr) char control[CMSG_SPACE(sizeof(struct ucred))] = {0};
@@ -177,7 +203,7 @@ static const struct {
 } checks[] = {
     {"name", check_name},     {"places", check_places}, {"credentials", check_credentials},
     {"room", check_room},     {"claim", check_claim},   {"length", check_length},
-    {"pidfd", check_pidfd},
+    {"pidfd", check_pidfd},   {"borders", check_borders},
 };
 
 int main(void) {
