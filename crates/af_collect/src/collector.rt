@@ -1,5 +1,4 @@
-//! What each change of the state owes to the pass that runs: it marks files that a place loses,
-//! and counts garbage that is freed.
+//! The duties of a running pass at each loss: lost files are marked, and freed garbage is counted.
 ghost use Rattle.std.specs.Prelude.{◌≡◌, ◌&&◌, ◌+◌, ◌<◌, ◌≤◌, ℕ, Some, [], if◌then◌else◌, true};
 ghost use Rattle.std.specs.Prelude.{IsTrue, false, nat_eq, slice_get};
 ghost use Rattle.af_base.specs.declared.limits.TheConstants.{MAX_FILES};
