@@ -44,7 +44,7 @@ WORDS = {
     "payload": "BYTES",
     "items": "ITEM ..",
     "privilege": "[priv]",
-    "two": "2",
+    "version": "N",
 }
 Refusals = Dict[str, List[str]]
 # The compared facts: each has a name, the call that reads it, and the expected result.
@@ -150,7 +150,7 @@ def keywords() -> Dict[str, str]:
 def later_steps() -> Dict[str, str]:
     """The verbs of the steps that only scripts of version 2 have."""
     text = text_of("crates/scm_lines/specs/Versions.antt")
-    return alike(it.lower() for it in re.findall(r"^is_later \(?step\.(\w+).* = true$", text, re.M))
+    return alike(it.lower() for it in re.findall(r"^first_number_of \(?step\.(\w+).* = 2$", text, re.M))
 
 
 def help_text() -> str:

@@ -40,7 +40,9 @@ VERBS = {
     b"peek": "number number number",
     b"limit": "number",
 }
-LATER = b"peek", b"limit"
+# The first version that has a verb, where that is not version 1; and the versions that a line can name.
+FIRST_VERSIONS = {b"peek": 2, b"limit": 2}
+VERSIONS = {b"2": 2, b"3": 3}
 QUESTIONS = b"who", b"graph", b"help"
 WORD = re.compile(rb"[^ \t]+")
 # A byte of a message: a character that means itself, or two digits behind a %.
@@ -122,8 +124,8 @@ def fit(kind: str, word: Word):
         payload(word)
     elif kind == "type" and word.text not in (b"seqpacket", b"stream"):
         raise Misfit(word.at, "a type is seqpacket or stream")
-    elif kind == "version" and word.text != b"2":
-        raise Misfit(word.at, "the only version to name is 2")
+    elif kind == "version" and word.text not in VERSIONS:
+        raise Misfit(word.at, "the versions to name are 2 and 3")
 
 
 def fit_form(form: str, words: List[Word], end: int):
@@ -190,11 +192,11 @@ class Reader:
             raise Misfit(other.start(), "this byte is not printable ASCII")
         form = first_form(words, len(line))
         if form.text == b"version" and self.version:
-            raise Misfit(form.at, "only comments and empty lines can stand before `version 2`")
-        if form.text in LATER and self.version != 2:
+            raise Misfit(form.at, "only comments and empty lines can stand before a version")
+        if FIRST_VERSIONS.get(form.text, 1) > (self.version or 1):
             raise Misfit(form.at, "this event needs the first line `version 2`")
         if not self.version:
-            self.version = 2 if form.text == b"version" else 1
+            self.version = VERSIONS[words[1].text] if form.text == b"version" else 1
 
     def reason(self, line: bytes) -> Optional[str]:
         """Why the next line cannot be read, if it cannot."""

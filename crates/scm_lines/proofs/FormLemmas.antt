@@ -9,9 +9,11 @@ use Rattle.af_base.specs.declared.events.SockType.{SockType}
 use Rattle.af_base.specs.declared.events.SockType.TheVariants.{Seqpacket, Stream}
 use Rattle.scm_lines.specs.Words.{all_printable, at_end}
 use Rattle.scm_lines.specs.Attached.{attached_of}
-use Rattle.scm_lines.specs.Keywords.{meaning, privilege_of, type_of, types}
-use Rattle.scm_lines.specs.Spelling.{IsPrivilege, type_name}
-use Rattle.scm_lines.specs.Forms.{Form, FormRow, Kind, SaysForm, SaysRow, SaysWord, Value, end, items, name, row_named, number, payload, privilege, read_by, read_form, sockets, two, value_in, word_value, ◌◂◌}
+use Rattle.scm_lines.specs.Keywords.{meaning, privilege_of, type_of, types, version_of, versions}
+use Rattle.scm_lines.specs.Spelling.{IsPrivilege, IsVersion, type_name}
+use Rattle.scm_lines.specs.Forms.{Form, FormRow, Kind, SaysForm, SaysRow, SaysWord, Value, end, items, name, row_named, number, payload, privilege, read_by, read_form, sockets, value_in, version, word_value, ◌◂◌}
+use Rattle.scm_lines.specs.declared.version.Version.{Version}
+use Rattle.scm_lines.specs.declared.version.Version.TheVariants as kinds
 use Rattle.af_base.proofs.DerivedEquality.{both}
 use Rattle.scm_lines.proofs.Choices.{allowed, bound, chosen, ended, guarded, mapped, same_word}
 use Rattle.scm_lines.proofs.NumberLemmas.{number_read, number_said}
@@ -46,13 +48,31 @@ type_read : (kind : SockType) → type_of (type_name kind) ≡ Some kind
 type_read Stream = refl
 type_read Seqpacket = refl
 
+-- A version that is read is named by its word.
+version_said : (word : List ℕ) (v : Version) → version_of word ≡ Some v → IsVersion word v
+version_said = meaning_said IsVersion versions (refl, (refl, tt))
+
+-- The word of a version is read as that version.
+version_read : (word : List ℕ) (v : Version) → IsVersion word v → version_of word ≡ Some v
+version_read word kinds.Unknown says = absurd says
+version_read word kinds.First says = absurd says
+version_read word kinds.Second says = rw says refl
+version_read word kinds.Third says = rw says refl
+
+-- The word of a version is printable.
+version_printable : (word : List ℕ) (v : Version) → IsVersion word v → all_printable word ≡ true
+version_printable word kinds.Unknown says = absurd says
+version_printable word kinds.First says = absurd says
+version_printable word kinds.Second says = rw says refl
+version_printable word kinds.Third says = rw says refl
+
 -- A word that is read is one that the table has for its value.
 word_said : (k : Kind) (word : List ℕ) (v : Value k) → word_value k word ≡ Some v → SaysWord k word v
 word_said number word v e = number_said word v e
 word_said sockets word v e = type_said word v e
 word_said name word v e = guarded (all_printable word) word v e
 word_said payload word v e = payload_said word v e
-word_said two word v e = same_word word (codes "2") (guarded (bytes_eq word (codes "2")) tt v e).0
+word_said version word v e = version_said word v e
 
 -- A word that the table has for a value is read so.
 word_read : (k : Kind) (word : List ℕ) (v : Value k) → SaysWord k word v → word_value k word ≡ Some v
@@ -60,7 +80,7 @@ word_read number word v says = number_read word v says
 word_read sockets word v says = rw says (type_read v)
 word_read name word v (printable, is) = rw printable (ap Some is)
 word_read payload word v says = payload_read word v says
-word_read two word v says = rw says refl
+word_read version word v says = version_read word v says
 
 -- A word of the table is printable.
 word_printable : (k : Kind) (word : List ℕ) (v : Value k) → SaysWord k word v → all_printable word ≡ true
@@ -68,7 +88,7 @@ word_printable number word v says = number_printable word v says
 word_printable sockets word v says = rw says (type_printable v)
 word_printable name word v (printable, is) = printable
 word_printable payload word v says = payload_printable word v says
-word_printable two word v says = rw says refl
+word_printable version word v says = version_printable word v says
 
 -- ---- priv
 

@@ -1,13 +1,12 @@
 -- Words fit what is wanted exactly where a form reads them.
-use Rattle.std.proofs.Common.{◌≡◌, ℕ, ◌&&◌, List, [], ◌∷◌, Bool, true, false, cond, not, Option, Some, None, codes, is_none, is_some, refl, sym, ap, ◌∙◌}
+use Rattle.std.proofs.Common.{◌≡◌, ℕ, ◌&&◌, List, [], ◌∷◌, Bool, true, false, cond, not, Option, Some, None, is_none, is_some, refl, sym, ap, ◌∙◌}
 use Rattle.std.specs.Option.{option_map}
-use Rattle.std.specs.Str.{bytes_eq}
 use Rattle.af_base.proofs.Lookups.{mapped_some}
 use Rattle.scm_lines.specs.Words.{all_printable, at_end, no_words, ◌>>=◌}
 use Rattle.scm_lines.specs.Attached.{attached_of}
 use Rattle.scm_lines.specs.Keywords.{privilege_of}
 use Rattle.scm_lines.specs.Fitting.{fits_word, fits_words}
-use Rattle.scm_lines.specs.Forms.{Form, Kind, Value, end, items, line_row, name, number, payload, privilege, read_form, sockets, verb_row, two, word_value, ◌◂◌}
+use Rattle.scm_lines.specs.Forms.{Form, Kind, Value, end, items, line_row, name, number, payload, privilege, read_form, sockets, verb_row, version, word_value, ◌◂◌}
 use Rattle.scm_lines.specs.declared.explain.Last.{Last}
 use Rattle.scm_lines.specs.declared.explain.Last.TheVariants as last
 use Rattle.scm_lines.specs.declared.explain.Wanted.{Wanted}
@@ -25,7 +24,7 @@ kind_of wanted.Number = number
 kind_of wanted.Type = sockets
 kind_of wanted.Name = name
 kind_of wanted.Bytes = payload
-kind_of wanted.Two = two
+kind_of wanted.Version = version
 
 -- The form has the words that are wanted.
 abbrev HasWords : {A : Type 0} → Form A → List Wanted → Last → Type 0
@@ -45,11 +44,7 @@ word_fits wanted.Name word = by (all_printable word)
     by true = refl
     by false = refl
 word_fits wanted.Bytes word = refl
-word_fits wanted.Two word = by (bytes_eq word (codes "2"))
-  where
-    by : (same : Bool) → same ≡ is_some (cond {A = Option (Unit {0})} same (Some tt) None)
-    by true = refl
-    by false = refl
+word_fits wanted.Version word = refl
 
 -- An option is none exactly if it has no value.
 none_not_some : {A : Type 0} (r : Option A) → not (is_some r) ≡ is_none r
@@ -139,7 +134,7 @@ line_words keyword.Pass = ([], last.Nothing)
 line_words keyword.Table = ([], last.Nothing)
 line_words keyword.Totals = ([], last.Nothing)
 line_words keyword.Check = ([], last.Nothing)
-line_words keyword.Version = (wanted.Two ∷ [], last.Nothing)
+line_words keyword.Version = (wanted.Version ∷ [], last.Nothing)
 
 -- The form of another line has the words that are wanted of it.
 line_has : (k : Keyword) → HasWords (line_row k).1 (line_words k).0 (line_words k).1
@@ -150,7 +145,7 @@ line_has keyword.Pass = tt
 line_has keyword.Table = tt
 line_has keyword.Totals = tt
 line_has keyword.Check = tt
-line_has keyword.Version = (refl, λ v. tt)
+line_has keyword.Version = (refl, λ named. tt)
 
 -- So words that do not fit are read as no line.
 pub line_fits : (k : Keyword) (words : List (List ℕ)) → not (fits_words (line_words k).0 (line_words k).1 words) ≡ is_none (read_form (line_row k).1 words)

@@ -10,7 +10,7 @@ use Rattle.scm_lines.specs.Numbers.{all_digits, is_digit, first_number, word_num
 use Rattle.scm_lines.specs.Fitting.{has_verb}
 use Rattle.scm_lines.specs.Forms.{row_named, read_form, verb_row, verbs}
 use Rattle.scm_lines.specs.Meaning.{form_of, line_behind, step_of, words_say}
-use Rattle.scm_lines.specs.Versions.{allowed_in, has_line, is_later, is_second, read_in}
+use Rattle.scm_lines.specs.Versions.{allowed_in, has_line, has_step, read_in}
 use Rattle.scm_lines.specs.declared.keywords.Verb.{Verb}
 use Rattle.scm_lines.specs.declared.line.Line.{Line}
 use Rattle.scm_lines.specs.declared.line.Line.TheVariants as line
@@ -63,7 +63,7 @@ unfolding step_of
 words_verb word words more k parted is = rw (parted, ← is) refl
 
 -- A step of a verb that the version has is read.
-passes : (v : Version) (pid : ℕ) (k : Verb) (r : Option Step) → ((does : Step) → r ≡ Some does → (not (is_later does) || is_second v) ≡ has_verb v k) → has_verb v k ≡ true
+passes : (v : Version) (pid : ℕ) (k : Verb) (r : Option Step) → ((does : Step) → r ≡ Some does → has_step v does ≡ has_verb v k) → has_verb v k ≡ true
     → (option_map (does_line pid) r >>= λ said. cond (has_line v said) (Some said) None) ≡ option_map (does_line pid) r
 passes v pid k None same has = refl
 passes v pid k (Some does) same has = rw (same does refl, has) refl
@@ -79,4 +79,4 @@ read_by_verb v bytes word words more pid k short counted parted is has =
     words_process (words_of bytes) words pid counted ∙ ap (option_map (does_line pid)) (words_verb word words more k parted is) in
     let whole = line_said_by_words bytes short (words_plain (words_of bytes) words pid counted) ∙ said in
     ap (allowed_in v) whole
-    ∙ passes v pid k row (made (λ does. (not (is_later does) || is_second v) ≡ has_verb v k) (verb_row k).1 (verb_makes v k) more) has
+    ∙ passes v pid k row (made (λ does. has_step v does ≡ has_verb v k) (verb_row k).1 (verb_makes v k) more) has

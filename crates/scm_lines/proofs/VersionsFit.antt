@@ -10,7 +10,7 @@ use Rattle.scm_lines.specs.Keywords.{privilege_of}
 use Rattle.scm_lines.specs.Fitting.{form_in, has_keyword, has_verb, step_in}
 use Rattle.scm_lines.specs.Forms.{Form, Value, end, items, keywords, line_row, row_named, privilege, read_form, verb_row, value_in, verbs, ◌◂◌}
 use Rattle.scm_lines.specs.Meaning.{form_of, step_of}
-use Rattle.scm_lines.specs.Versions.{has_line, is_later, is_second}
+use Rattle.scm_lines.specs.Versions.{has_line, has_step}
 use Rattle.scm_lines.specs.declared.keywords.Keyword.{Keyword}
 use Rattle.scm_lines.specs.declared.keywords.Keyword.TheVariants as keyword
 use Rattle.scm_lines.specs.declared.keywords.Verb.{Verb}
@@ -56,8 +56,8 @@ or_true false = refl
 
 -- ---- verbs
 
--- The steps of a verb are of version 2 where the verb is.
-pub verb_makes : (v : Version) (k : Verb) → AllMake (λ does. (not (is_later does) || is_second v) ≡ has_verb v k) (verb_row k).1
+-- The steps of a verb are of the versions that the verb is of.
+pub verb_makes : (v : Version) (k : Verb) → AllMake (λ does. has_step v does ≡ has_verb v k) (verb_row k).1
 verb_makes v verb.Send = λ on bytes fds. refl
 verb_makes v verb.Recv = λ on max_bytes max_fds. refl
 verb_makes v verb.Open = refl
@@ -89,10 +89,10 @@ step_in_other v word words other = rw (← other) refl
 step_in_named : (v : Version) (word : List ℕ) (words : List (List ℕ)) (k : Verb) → Some k ≡ row_named verb_row verbs word
     → is_none (step_in v (word ∷ words)) ≡ (is_none (read_form (verb_row k).1 words) || not (has_verb v k))
 unfolding step_in step_of
-step_in_named v word words k is = rw (← is) (by (read_form (verb_row k).1 words) (made (λ does. (not (is_later does) || is_second v) ≡ has_verb v k) (verb_row k).1 (verb_makes v k) words))
+step_in_named v word words k is = rw (← is) (by (read_form (verb_row k).1 words) (made (λ does. has_step v does ≡ has_verb v k) (verb_row k).1 (verb_makes v k) words))
   where
-    by : (r : Option Step) → ((does : Step) → r ≡ Some does → (not (is_later does) || is_second v) ≡ has_verb v k)
-        → is_none (r >>= λ does. cond (not (is_later does) || is_second v) (Some does) None) ≡ (is_none r || not (has_verb v k))
+    by : (r : Option Step) → ((does : Step) → r ≡ Some does → has_step v does ≡ has_verb v k)
+        → is_none (r >>= λ does. cond (has_step v does) (Some does) None) ≡ (is_none r || not (has_verb v k))
     by None same = refl
     by (Some does) same = rw (same does refl) (by_version (has_verb v k))
       where
@@ -121,7 +121,7 @@ keyword_makes v keyword.Pass = refl
 keyword_makes v keyword.Table = refl
 keyword_makes v keyword.Totals = refl
 keyword_makes v keyword.Check = refl
-keyword_makes v keyword.Version = λ two. refl
+keyword_makes v keyword.Version = λ named. refl
 
 -- A process's number begins a line where its step is one.
 pub form_in_process : (v : Version) (word : List ℕ) (words : List (List ℕ)) (pid : ℕ) → Some pid ≡ word_number word
@@ -130,9 +130,9 @@ unfolding form_in form_of step_in
 form_in_process v word words pid is = rw (← is) (by (step_of words))
   where
     by : (r : Option Step) → is_none (option_map (λ does. line.Event (event.Proc pid does)) r >>= λ said. cond (has_line v said) (Some said) None)
-        ≡ is_none (r >>= λ does. cond (not (is_later does) || is_second v) (Some does) None)
+        ≡ is_none (r >>= λ does. cond (has_step v does) (Some does) None)
     by None = refl
-    by (Some does) = by_version (not (is_later does) || is_second v)
+    by (Some does) = by_version (has_step v does)
       where
         by_version : (has : Bool) → is_none (cond has (Some (line.Event (event.Proc pid does))) None) ≡ is_none (cond has (Some does) None)
         by_version true = refl

@@ -1,14 +1,13 @@
 -- Which words fit a form, and why a word is no number. This project's profile.
-use Rattle.std.specs.Prelude.{ℕ, ◌==◌, ◌&&◌, ◌||◌, List, [], ◌∷◌, Bool, true, false, not, if◌then◌else◌, Option, Some, None, is_some, codes}
-use Rattle.std.specs.Str.{bytes_eq}
+use Rattle.std.specs.Prelude.{ℕ, nat_le, ◌==◌, ◌&&◌, List, [], ◌∷◌, Bool, true, false, if◌then◌else◌, Option, Some, None, is_some}
 use Rattle.af_base.specs.declared.events.Step.{Step}
 use Rattle.scm_lines.specs.Words.{all_printable, no_words}
 use Rattle.scm_lines.specs.Numbers.{all_digits, word_number}
 use Rattle.scm_lines.specs.Payload.{payload_of}
 use Rattle.scm_lines.specs.Attached.{attached_of}
-use Rattle.scm_lines.specs.Keywords.{privilege_of, type_of}
+use Rattle.scm_lines.specs.Keywords.{privilege_of, type_of, version_of}
 use Rattle.scm_lines.specs.Meaning.{form_of, step_of, ◌>>=◌}
-use Rattle.scm_lines.specs.Versions.{has_line, is_later, is_second, is_unknown}
+use Rattle.scm_lines.specs.Versions.{has_line, has_step, is_unknown, number_of}
 use Rattle.scm_lines.specs.declared.line.Line.{Line}
 use Rattle.scm_lines.specs.declared.explain.Last.{Last}
 use Rattle.scm_lines.specs.declared.explain.Last.TheVariants as last
@@ -39,7 +38,7 @@ fits_word wanted.Number word = is_some (word_number word)
 fits_word wanted.Type word = is_some (type_of word)
 fits_word wanted.Name word = all_printable word
 fits_word wanted.Bytes word = is_some (payload_of word)
-fits_word wanted.Two word = bytes_eq word (codes "2")
+fits_word wanted.Version word = is_some (version_of word)
 
 -- The last words are what is wanted.
 abbrev pub fits_last : Last → List (List ℕ) → Bool
@@ -53,11 +52,15 @@ fits_words [] end words = fits_last end words
 fits_words (first ∷ others) end [] = false
 fits_words (first ∷ others) end (word ∷ words) = fits_word first word && fits_words others end words
 
+-- The number of the first version that has the verb.
+abbrev pub first_number_of_verb : Verb → ℕ
+first_number_of_verb verb.Peek = 2
+first_number_of_verb verb.Limit = 2
+first_number_of_verb other = 1
+
 -- Events with this verb can come now.
 abbrev pub has_verb : Version → Verb → Bool
-has_verb v verb.Peek = is_second v
-has_verb v verb.Limit = is_second v
-has_verb v other = true
+has_verb v verb = nat_le (first_number_of_verb verb) (number_of v)
 
 -- A line with this keyword can come now.
 abbrev pub has_keyword : Version → Keyword → Bool
@@ -67,7 +70,7 @@ has_keyword v other = true
 -- The step of a process in a script of this version.
 unfoldable pub step_in : Version → List (List ℕ) → Option Step
 step_in v words =
-    step_of words >>= λ does. if not (is_later does) || is_second v then Some does else None
+    step_of words >>= λ does. if has_step v does then Some does else None
 
 -- The next line of a script, by its first word.
 unfoldable pub form_in : Version → List ℕ → List (List ℕ) → Option Line

@@ -10,8 +10,8 @@ use Rattle.scm_lines.specs.Words.{all_printable, at_end, word_as, ◌>>=◌}
 use Rattle.scm_lines.specs.Numbers.{word_number}
 use Rattle.scm_lines.specs.Payload.{payload_of}
 use Rattle.scm_lines.specs.Attached.{attached_of}
-use Rattle.scm_lines.specs.Keywords.{privilege_of, type_of}
-use Rattle.scm_lines.specs.Spelling.{IsAttached, IsNumber, IsPayload, IsPrivilege, type_name}
+use Rattle.scm_lines.specs.Keywords.{privilege_of, type_of, version_of}
+use Rattle.scm_lines.specs.Spelling.{IsAttached, IsNumber, IsPayload, IsPrivilege, IsVersion, type_name}
 use Rattle.scm_lines.specs.declared.keywords.Keyword.{Keyword}
 use Rattle.scm_lines.specs.declared.keywords.Keyword.TheVariants as keyword
 use Rattle.scm_lines.specs.declared.keywords.Verb.{Verb}
@@ -19,12 +19,13 @@ use Rattle.scm_lines.specs.declared.keywords.Verb.TheVariants as verb
 use Rattle.scm_lines.specs.declared.line.Line.{Line}
 use Rattle.scm_lines.specs.declared.line.Line.TheVariants as line
 use Rattle.scm_lines.specs.declared.line.Report.TheVariants as report
+use Rattle.scm_lines.specs.declared.version.Version.{Version}
 
 -- ---- words
 
--- The kinds of a word: a number, a type of sockets, a name, the bytes of a message, or 2.
+-- The kinds of a word: a number, a type of sockets, a name, the bytes of a message, or a version.
 pub data Kind : Type 0 where
-  number sockets name payload two : Kind
+  number sockets name payload version : Kind
 
 -- The value of a word of this kind.
 abbrev pub Value : Kind → Type 0
@@ -32,7 +33,7 @@ Value number = ℕ
 Value sockets = SockType
 Value name = List ℕ
 Value payload = List ℕ
-Value two = Unit {0}
+Value version = Version
 
 -- The word says this.
 abbrev pub SaysWord : (k : Kind) → List ℕ → Value k → Type 0
@@ -40,7 +41,7 @@ SaysWord number word n = IsNumber word n
 SaysWord sockets word kind = word ≡ type_name kind
 SaysWord name word text = (all_printable word ≡ true) × (word ≡ text)
 SaysWord payload word bytes = IsPayload word bytes
-SaysWord two word v = word ≡ codes "2"
+SaysWord version word named = IsVersion word named
 
 -- The reading of a word.
 abbrev pub word_value : (k : Kind) → List ℕ → Option (Value k)
@@ -48,7 +49,7 @@ word_value number word = word_number word
 word_value sockets word = type_of word
 word_value name word = if all_printable word then Some word else None
 word_value payload word = payload_of word
-word_value two word = if bytes_eq word (codes "2") then Some tt else None
+word_value version word = version_of word
 
 -- The reading of the first word, and the words after it.
 abbrev pub value_in : (k : Kind) → List (List ℕ) → Option (Value k × List (List ℕ))
@@ -128,7 +129,7 @@ line_row keyword.Pass = (codes "pass", end (line.Event event.Pass))
 line_row keyword.Table = (codes "table", end (line.Report report.Table))
 line_row keyword.Totals = (codes "totals", end (line.Report report.Totals))
 line_row keyword.Check = (codes "check", end (line.Report report.Check))
-line_row keyword.Version = (codes "version", two ◂ λ v. end line.Version2)
+line_row keyword.Version = (codes "version", version ◂ λ named. end (line.Version named))
 
 -- All verbs.
 abbrev pub verbs : List Verb

@@ -5,6 +5,8 @@ use Rattle.std.specs.Str.{bytes_eq}
 use Rattle.af_base.specs.declared.events.SockType.{SockType}
 use Rattle.af_base.specs.declared.events.SockType.TheVariants.{Seqpacket, Stream}
 use Rattle.scm_lines.specs.Words.{at_end}
+use Rattle.scm_lines.specs.declared.version.Version.{Version}
+use Rattle.scm_lines.specs.declared.version.Version.TheVariants as version
 
 -- The meaning of a word in a table of words.
 abbrev pub meaning : {A : Type 0} → List (List ℕ × A) → List ℕ → Option A
@@ -17,6 +19,14 @@ types = (codes "stream", Stream) ∷ (codes "seqpacket", Seqpacket) ∷ []
 -- The type of sockets that a word names.
 abbrev pub type_of : List ℕ → Option SockType
 type_of word = meaning types word
+
+-- The versions that a script can name, each with its word.
+abbrev pub versions : List (List ℕ × Version)
+versions = (codes "2", version.Second) ∷ (codes "3", version.Third) ∷ []
+
+-- The version that a word names.
+abbrev pub version_of : List ℕ → Option Version
+version_of word = meaning versions word
 
 -- No word, or priv alone.
 abbrev pub privilege_of : List (List ℕ) → Option Bool

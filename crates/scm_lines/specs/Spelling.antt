@@ -5,6 +5,8 @@ use Rattle.std.specs.Fmt.{decimal}
 use Rattle.af_base.specs.declared.events.SockType.{SockType}
 use Rattle.af_base.specs.declared.events.SockType.TheVariants.{Seqpacket, Stream}
 use Rattle.scm_lines.specs.Payload.{hex_value, is_plain}
+use Rattle.scm_lines.specs.declared.version.Version.{Version}
+use Rattle.scm_lines.specs.declared.version.Version.TheVariants as version
 
 -- A word that is the decimal digits of a number below 2 ^ 32.
 abbrev pub IsNumber : List ℕ → ℕ → Type 0
@@ -57,3 +59,9 @@ type_name Seqpacket = codes "seqpacket"
 abbrev pub IsPrivilege : List (List ℕ) → Bool → Type 0
 IsPrivilege words false = words ≡ []
 IsPrivilege words true = words ≡ codes "priv" ∷ []
+
+-- A word that names this version: each but the first has a name.
+abbrev pub IsVersion : List ℕ → Version → Type 0
+IsVersion word version.Second = word ≡ codes "2"
+IsVersion word version.Third = word ≡ codes "3"
+IsVersion word other = ⊥

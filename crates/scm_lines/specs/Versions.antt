@@ -1,6 +1,6 @@
 -- The versions of the language: which lines a script may have, by the lines before. This project's
 -- profile.
-use Rattle.std.specs.Prelude.{Bool, true, false, not, ◌||◌, List, ℕ, if◌then◌else◌, Option, Some, None}
+use Rattle.std.specs.Prelude.{Bool, true, false, nat_le, List, ℕ, if◌then◌else◌, Option, Some, None}
 use Rattle.af_base.specs.declared.events.Step.{Step}
 use Rattle.af_base.specs.declared.events.Step.TheVariants as step
 use Rattle.af_base.specs.declared.events.Event.TheVariants as event
@@ -13,39 +13,43 @@ use Rattle.scm_lines.specs.declared.version.Version.TheVariants as version
 -- Nothing was said of the version yet.
 abbrev pub is_unknown : Version → Bool
 is_unknown version.Unknown = true
-is_unknown version.First = false
-is_unknown version.Second = false
+is_unknown other = false
 
--- The script is of version 2.
-abbrev pub is_second : Version → Bool
-is_second version.Unknown = false
-is_second version.First = false
-is_second version.Second = true
+-- The number of the version by which the next line is read: 1 where nothing was said.
+abbrev pub number_of : Version → ℕ
+number_of version.Unknown = 1
+number_of version.First = 1
+number_of version.Second = 2
+number_of version.Third = 3
 
--- The step is one of version 2.
-abbrev pub is_later : Step → Bool
-is_later (step.Peek on max_bytes max_fds) = true
-is_later (step.Limit nofile) = true
-is_later other = false
+-- The number of the first version that has the step.
+abbrev pub first_number_of : Step → ℕ
+first_number_of (step.Peek on max_bytes max_fds) = 2
+first_number_of (step.Limit nofile) = 2
+first_number_of other = 1
 
--- A line of version 1: no version, and no step of version 2.
+-- The script has the step: its version is the first that has it, or a later one.
+abbrev pub has_step : Version → Step → Bool
+has_step v does = nat_le (first_number_of does) (number_of v)
+
+-- A line of version 1: no version, and no step of a later version.
 abbrev pub is_of_first : Line → Bool
-is_of_first line.Version2 = false
-is_of_first (line.Event (event.Proc pid does)) = not (is_later does)
+is_of_first (line.Version named) = false
+is_of_first (line.Event (event.Proc pid does)) = nat_le (first_number_of does) 1
 is_of_first other = true
 
--- Whether such a line may come now: version 2 before all but silence, and what is of version 2 in
--- it.
+-- Whether such a line may come now: a version before all but silence, and a step where the script
+-- has it.
 abbrev pub has_line : Version → Line → Bool
-has_line v line.Version2 = is_unknown v
-has_line v (line.Event (event.Proc pid does)) = not (is_later does) || is_second v
+has_line v (line.Version named) = is_unknown v
+has_line v (line.Event (event.Proc pid does)) = has_step v does
 has_line v other = true
 
--- The version after such a line: a silent line keeps it, and any other first line but version 2
--- sets version 1.
+-- The version after such a line: a silent line keeps it, a version sets itself, and any other first
+-- line sets version 1.
 abbrev pub version_after : Version → Line → Version
 version_after v line.Silence = v
-version_after v line.Version2 = version.Second
+version_after v (line.Version named) = named
 version_after v other = if is_unknown v then version.First else v
 
 -- The meaning that was read, where the script may have such a line now.

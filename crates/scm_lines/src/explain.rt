@@ -14,6 +14,7 @@ use crate::keywords::{Keyword, Verb, keyword_named, verb_named};
 use crate::line::{MAX_LINE, begins_comment};
 use crate::misfit::{
     Misfit, first_unprintable, number_misfit, why_attached, why_number, why_payload, why_type,
+    why_version,
 };
 use crate::numbers::number;
 use crate::reason::{Reason, Unreadable};
@@ -27,7 +28,7 @@ enum Wanted {
     Type,
     Name,
     Bytes,
-    Two,
+    Version,
 }
 
 /// The kind that the last words of a line have to be.
@@ -51,10 +52,7 @@ fn why_word(wanted: Wanted, word: &[u8]) -> Option<Misfit>
         Wanted::Type => why_type(word),
         Wanted::Name => first_unprintable(word),
         Wanted::Bytes => why_payload(word),
-        Wanted::Two => match word {
-            b"2" => None,
-            _ => Some(Misfit::at(Reason::UnknownVersion, word)),
-        },
+        Wanted::Version => why_version(word),
     }
 }
 
@@ -164,7 +162,7 @@ fn why_keyword(keyword: Keyword, bytes: &[u8]) -> Option<Misfit>
     match keyword {
         Keyword::Spawn => why_words(&[Wanted::Number, Wanted::Number], Last::Privilege, bytes),
         Keyword::Slice => why_words(&[Wanted::Number], Last::Nothing, bytes),
-        Keyword::Version => why_words(&[Wanted::Two], Last::Nothing, bytes),
+        Keyword::Version => why_words(&[Wanted::Version], Last::Nothing, bytes),
         Keyword::Begin | Keyword::Pass | Keyword::Table | Keyword::Totals | Keyword::Check => {
             why_words(&[], Last::Nothing, bytes)
         }

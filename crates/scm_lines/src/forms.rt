@@ -10,7 +10,7 @@ ghost use Rattle.scm_lines.specs.Fault.{Reads};
 ghost use Rattle.scm_lines.specs.Words.{word_in, words_of};
 ghost use Rattle.scm_lines.specs.Keywords.{privilege_of};
 ghost use Rattle.scm_lines.specs.Forms.{line_row, name, number, read_form, sockets, verb_row};
-ghost use Rattle.scm_lines.specs.Forms.{two, value_in, word_value};
+ghost use Rattle.scm_lines.specs.Forms.{value_in, version, word_value};
 ghost use Rattle.scm_lines.specs.Meaning.{form_of, step_of, step_takes_memory, takes_memory};
 ghost use Rattle.scm_lines.specs.declared.fault.LineFault.TheVariants as fault;
 ghost use Rattle.scm_lines.specs.declared.keywords.Keyword.TheVariants as keyword;
@@ -19,7 +19,7 @@ ghost use Rattle.scm_lines.specs.declared.line.Line.TheVariants as line;
 
 use crate::attached::{Descriptors, attached};
 use crate::fault::LineFault;
-use crate::keywords::{Keyword, Verb, keyword_named, type_named, verb_named};
+use crate::keywords::{Keyword, Verb, keyword_named, type_named, verb_named, version_named};
 use crate::line::{Line, Report};
 use crate::numbers::{number, number_in};
 use crate::payload::payload;
@@ -333,14 +333,13 @@ fn spawn_line(rest: &[u8]) -> Option<Line>
     }))
 }
 
-/// Reads `version 2`: no other version may be named.
+/// Reads `version 2` or `version 3`: no other version may be named.
 fn version(rest: &[u8]) -> Option<Line>
     ensures { result ≡ read_form (line_row keyword.Version).1 (words_of rest.now) }
 {
-    match first_word(rest) {
-        Some((b"2", rest)) => is_end(rest).then_some(Line::Version2),
-        _ => None,
-    }
+    let (word, rest) = first_word(rest)?;
+    let named = version_named(word)?;
+    is_end(rest).then_some(Line::Version(named))
 }
 
 /// Reads a line that begins with `keyword`.

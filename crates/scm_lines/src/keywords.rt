@@ -1,8 +1,9 @@
 //! The words that say which form a line has.
 ghost use Rattle.std.specs.Prelude.{◌≡◌, ◌++◌, IfSome, map};
-ghost use Rattle.scm_lines.specs.Keywords.{meaning, type_of};
+ghost use Rattle.scm_lines.specs.Keywords.{meaning, type_of, version_of};
 ghost use Rattle.scm_lines.specs.Forms.{keywords, line_row, row_named, verb_row, verbs};
 
+use crate::version::Version;
 use af_base::events::SockType;
 
 /// The first word of a line that does not begin with a process's number.
@@ -81,6 +82,9 @@ const TYPES: [(&[u8], SockType); 2] = [
     (b"seqpacket", SockType::Seqpacket),
 ];
 
+/// Each version that a script can name, with its word.
+const VERSIONS: [(&[u8], Version); 2] = [(b"2", Version::Second), (b"3", Version::Third)];
+
 /// Returns the value that a table has for a word.
 fn meaning<V: Copy>(mut table: &[(&[u8], V)], word: &[u8]) -> Option<V>
     ensures { result ≡ meaning (map (λ entry. (entry.0.now, entry.1)) table.entry.now) word.now }
@@ -147,4 +151,11 @@ pub fn type_named(word: &[u8]) -> Option<SockType>
     ensures { result ≡ type_of word.now }
 {
     meaning(&TYPES, word)
+}
+
+/// Returns the version that a word names.
+pub fn version_named(word: &[u8]) -> Option<Version>
+    ensures { result ≡ version_of word.now }
+{
+    meaning(&VERSIONS, word)
 }

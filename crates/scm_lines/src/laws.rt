@@ -1,8 +1,8 @@
-//! A line is read just as the table of forms says; and the lines of version 1.
-ghost use Rattle.std.specs.Prelude.{◌≡◌, List, ℕ, Some, true};
+//! A line is read just as the table of forms says; and which lines a version has.
+ghost use Rattle.std.specs.Prelude.{◌≡◌, ◌≤◌, List, ℕ, Some, false, true};
 ghost use Rattle.scm_lines.specs.Meaning.{line_of};
 ghost use Rattle.scm_lines.specs.Says.{IsLine};
-ghost use Rattle.scm_lines.specs.Versions.{is_of_first, read_in};
+ghost use Rattle.scm_lines.specs.Versions.{is_of_first, is_unknown, number_of, read_in};
 ghost use Rattle.scm_lines.specs.declared.line.Line.{Line};
 ghost use Rattle.scm_lines.specs.declared.line.TheConstants.{MAX_LINE};
 ghost use Rattle.scm_lines.specs.declared.version.Version.{Version};
@@ -28,6 +28,12 @@ pub fn version_1_is_read_in_any()
 pub fn version_1_has_no_other()
     ensures { (bytes : List ℕ) (said : Line) → read_in version.First bytes ≡ Some said
         → is_of_first said ≡ true }
+{}
+
+/// A script whose version is known has no line that one of a later version reads otherwise.
+pub fn a_later_version_reads_the_same()
+    ensures { (v w : Version) (bytes : List ℕ) (said : Line) → is_unknown v ≡ false
+        → number_of v ≤ number_of w → read_in v bytes ≡ Some said → read_in w bytes ≡ Some said }
 {}
 
 /// The longest line has 262,144 bytes.

@@ -7,6 +7,7 @@ ghost use Rattle.scm_lines.specs.declared.fault.LineFault.TheVariants as fault;
 
 use crate::fault::LineFault;
 use crate::forms::form;
+use crate::version::Version;
 use crate::words::first_word;
 use af_base::events::Event;
 use std::alloc::Global;
@@ -31,8 +32,8 @@ pub enum Report {
 pub enum Line {
     /// Nothing: it has no words, or is a comment.
     Silence,
-    /// `version 2`: the script is of that version. It is no event, and has no answer.
-    Version2,
+    /// `version 2` or `version 3`: the script is of that version. It is no event, and has no answer.
+    Version(Version),
     /// An event.
     Event(Event),
     /// A report is wanted.

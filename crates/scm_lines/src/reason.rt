@@ -42,7 +42,7 @@ pub enum Reason {
     NeedsVersion2,
     /// No version has this name.
     UnknownVersion,
-    /// Only silent lines may precede `version 2`.
+    /// Only silent lines may precede a version.
     VersionTooLate,
 }
 
@@ -69,8 +69,8 @@ impl Reason {
             Reason::CountOutOfRange => "a count is from 1 to 1024",
             Reason::TooManyDescriptors => "the items of a line are at most 1024 descriptors",
             Reason::NeedsVersion2 => "this event needs the first line `version 2`",
-            Reason::UnknownVersion => "the only version to name is 2",
-            Reason::VersionTooLate => "only comments and empty lines can stand before `version 2`",
+            Reason::UnknownVersion => "the versions to name are 2 and 3",
+            Reason::VersionTooLate => "only comments and empty lines can stand before a version",
         }
     }
 }

@@ -1,16 +1,17 @@
 //! The versions of the language.
 //!
-//! A script is of version 2 where its first line that is not silent is `version 2`. Then it may
-//! have `peek` and `limit` besides all lines of version 1.
+//! A script is of version 2 or 3 where its first line that is not silent is `version 2` or
+//! `version 3`, else of version 1. A version has all events of those before it. Version 2 adds
+//! `peek` and `limit`.
 ghost use Rattle.std.specs.Prelude.{◌≡◌, IfErr, IfSome, if◌then◌else◌, true};
 ghost use Rattle.std.specs.Option.{option_map};
 ghost use Rattle.af_base.specs.declared.events.Event.TheVariants as event;
 ghost use Rattle.scm_lines.specs.Fault.{Reads};
-ghost use Rattle.scm_lines.specs.Fitting.{has_verb};
+ghost use Rattle.scm_lines.specs.Fitting.{first_number_of_verb, has_verb};
 ghost use Rattle.scm_lines.specs.Forms.{line_row, read_form, verb_row};
 ghost use Rattle.scm_lines.specs.Meaning.{line_takes_memory};
-ghost use Rattle.scm_lines.specs.Versions.{allowed_in, has_line, is_later, is_unknown, read_in};
-ghost use Rattle.scm_lines.specs.Versions.{version_after};
+ghost use Rattle.scm_lines.specs.Versions.{allowed_in, first_number_of, has_line, is_unknown};
+ghost use Rattle.scm_lines.specs.Versions.{number_of, read_in, version_after};
 ghost use Rattle.scm_lines.specs.Words.{words_of};
 ghost use Rattle.scm_lines.specs.declared.fault.LineFault.TheVariants as fault;
 ghost use Rattle.scm_lines.specs.declared.line.Line.TheVariants as line;
@@ -28,22 +29,35 @@ use std::alloc::Global;
 /// The version of a script, by its lines so far.
 #[derive(Clone, Copy, PartialEq, Eq)]
 pub enum Version {
-    /// All lines were silent, so the script may be of either version.
+    /// All lines were silent, so the script may be of any version.
     Unknown,
     /// The script is of version 1.
     First,
     /// The script is of version 2.
     Second,
+    /// The script is of version 3.
+    Third,
 }
 
 impl Version {
+    /// Returns the number of the version by which the next line is read.
+    fn number(self) -> u32
+        ensures { result ≡ number_of self }
+    {
+        match self {
+            Version::Unknown | Version::First => 1,
+            Version::Second => 2,
+            Version::Third => 3,
+        }
+    }
+
     /// Returns whether a script of this version may have `line` next.
     fn has(self, line: &Line) -> bool
         ensures { result ≡ has_line self line.now }
     {
         match line {
-            Line::Version2 => self == Version::Unknown,
-            Line::Event(Event::Proc(_, step)) => !is_later(step) || self == Version::Second,
+            Line::Version(_) => self == Version::Unknown,
+            Line::Event(Event::Proc(_, step)) => first_number(step) <= self.number(),
             _ => true,
         }
     }
@@ -54,7 +68,7 @@ impl Version {
     {
         match line {
             Line::Silence => self,
-            Line::Version2 => Version::Second,
+            Line::Version(named) => *named,
             _ => self.after_event(),
         }
     }
@@ -70,18 +84,31 @@ impl Version {
     }
 }
 
-/// Returns whether the step is one of version 2.
-fn is_later(step: &Step) -> bool
-    ensures { result ≡ is_later step.now }
+/// Returns the number of the first version that has the step.
+fn first_number(step: &Step) -> u32
+    ensures { result ≡ first_number_of step.now }
 {
-    matches!(step, Step::Peek { .. } | Step::Limit(_))
+    match step {
+        Step::Peek { .. } | Step::Limit(_) => 2,
+        _ => 1,
+    }
+}
+
+/// Returns the number of the first version that has the verb.
+fn first_number_of_verb(verb: Verb) -> u32
+    ensures { result ≡ first_number_of_verb verb }
+{
+    match verb {
+        Verb::Peek | Verb::Limit => 2,
+        _ => 1,
+    }
 }
 
 /// Returns whether a script of `version` may have steps of `verb`.
 pub fn has_verb(version: Version, verb: Verb) -> bool
     ensures { result ≡ has_verb version verb }
 {
-    !matches!(verb, Verb::Peek | Verb::Limit) || version == Version::Second
+    first_number_of_verb(verb) <= version.number()
 }
 
 /// Returns the process and the verb that a process's line begins with, and the bytes after them.

@@ -29,7 +29,7 @@ use Rattle.scm_run.specs.declared.fault.RunFault.TheVariants as fault
 -- line of ENOMEM.
 abbrev pub LineEffect : Machine → Line → ℕ → List ℕ → Machine → Type 0
 LineEffect old line.Silence events text new = (events ≡ 0) × (text ≡ []) × (new ≡ old)
-LineEffect old line.Version2 events text new = (events ≡ 0) × (text ≡ []) × (new ≡ old)
+LineEffect old (line.Version named) events text new = (events ≡ 0) × (text ≡ []) × (new ≡ old)
 LineEffect old (line.Event event) events text new = (events ≡ 1)
     × ((reply : Reply) × Step old event reply new × (text ≡ reply_line reply))
 LineEffect old (line.Report report) events text new = (events ≡ 0)

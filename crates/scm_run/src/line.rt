@@ -57,7 +57,7 @@ pub fn answer(alloc: Global, engine: &mut Engine, says: Line, text: &mut Vec<u8>
     ensures few { result ≤ 1 }
 {
     match says {
-        Line::Silence | Line::Version2 => 0,
+        Line::Silence | Line::Version(_) => 0,
         Line::Event(event) => {
             // The reply of a sound world is short.
             engine.lemma_is_sound();

@@ -49,7 +49,7 @@ pub enum Task<'a> {
 /// The help on scripts.
 const OF_SCRIPTS: &str =
     "A script has one event or one report on each line, as 'spawn 1000 16' or 'check'.
-One whose first line is 'version 2' may also have
+One whose first line is 'version 2' or 'version 3' may also have
   P peek N N N   process P sees what it may receive: socket, most bytes, most descriptors
   P limit N      process P has another limit on its descriptors";
 

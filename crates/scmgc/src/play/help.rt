@@ -27,7 +27,7 @@ pass                 make a whole pass
 table                report all live files
 totals               report what each user has in flight
 check                report a recount
-version 2            let peek and limit be read; the first line
+version N            let events of version N be read; the first line
 
 who                  say what holds each file
 graph                draw the world in the language of Graphviz
