@@ -30,7 +30,7 @@ pub fn version_1_has_no_other()
         → is_of_first said ≡ true }
 {}
 
-/// A script whose version is known has no line that one of a later version reads otherwise.
+/// Once a version is known, each line that its script may have is read the same in a later one.
 pub fn a_later_version_reads_the_same()
     ensures { (v w : Version) (bytes : List ℕ) (said : Line) → is_unknown v ≡ false
         → number_of v ≤ number_of w → read_in v bytes ≡ Some said → read_in w bytes ≡ Some said }
