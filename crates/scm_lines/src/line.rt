@@ -32,7 +32,7 @@ pub enum Report {
 pub enum Line {
     /// Nothing: it has no words, or is a comment.
     Silence,
-    /// `version 2` or `version 3`: the script is of that version. It is no event, without an answer.
+    /// `version 2` or `version 3`: the script is of that version. It is no event, and unanswered.
     Version(Version),
     /// An event.
     Event(Event),
