@@ -10,6 +10,7 @@ where the program is not built. Where it may not trace a program, it counts noth
 """
 import argparse
 import ctypes
+import errno
 import fcntl
 import os
 import subprocess
@@ -21,6 +22,8 @@ from typing import Iterator, List, NamedTuple, Tuple
 ROOT = Path(os.path.realpath(__file__)).parent.parent
 # Requests of ptrace(2).
 ATTACH, STEP = 16, 9
+# The errors of ptrace(2) where a program may not be traced.
+NO_TRACE = errno.EPERM, errno.EACCES, errno.ENOSYS
 # How many instructions more a line may take. In the larger order, a binary search has 8 steps more, of 5 or more each.
 MOST = 20
 # How many lines are written before their replies are read: so few fit into a pipe.
@@ -159,7 +162,9 @@ def main() -> int:
         return 2
     try:
         checks: List[Check] = [check for part in (looks, walks, processes) for check in part(path)]
-    except PermissionError:
+    except OSError as error:
+        if error.errno not in NO_TRACE:
+            raise
         print("looks: no program may be traced, so no instruction was counted")
         checks = []
     faults = [(name, found) for name, found, is_right in checks if not is_right]

@@ -11,6 +11,7 @@ import errno
 import fcntl
 import json
 import os
+import re
 import resource
 import select
 import signal
@@ -32,6 +33,8 @@ PR_SET_KEEPCAPS, PR_SET_CHILD_SUBREAPER = 8, 36
 CAP_SYS_ADMIN = 21
 # The two pipes of a process, above each limit; and its hard limit.
 ORDERS, ANSWERS, MOST_FILES = MAX_NOFILE + 76, MAX_NOFILE + 77, 4096
+# The oldest Linux whose sockets are compared.
+OLDEST = 6, 18
 # The highest number that a walk uses, and how long a process may take for an answer.
 LAST_FD, SECONDS = 127, 20
 
@@ -387,10 +390,17 @@ def enter_namespace():
     resource.setrlimit(resource.RLIMIT_NOFILE, (MOST_FILES, MOST_FILES))
 
 
+def release() -> Tuple[int, ...]:
+    """The first two numbers of this kernel's release."""
+    return tuple(int(it) for it in re.findall(r"\d+", os.uname().release)[:2])
+
+
 def why_not() -> str:
     """Why walks cannot be played here, or nothing."""
     if sys.platform != "linux" or not hasattr(os, "pidfd_open"):
         return "it takes Linux with pidfd_open(2)"
+    if release() < OLDEST:
+        return f"Linux {os.uname().release} is older than the one that docs/PROFILE.md is of"
     if os.geteuid():
         return "it takes root, for users and a network namespace of its own"
     child = os.fork()
