@@ -18,7 +18,7 @@ class Scene:
     def __init__(self, engine: Engine, event: Event):
         self.engine, self.event, self.verb = engine, event, event.verb
         self.process: Optional[Process] = None
-        # What the event's first number stands for.
+        # The file behind the event's first number.
         self.file: Optional[File] = None
         try:
             self.process = engine.process(event.pid)

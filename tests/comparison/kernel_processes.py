@@ -23,7 +23,7 @@ from typing import Any, Callable, Dict, List, NamedTuple, NoReturn, Optional, Se
 
 from plain_engine import MAX_NOFILE, Event, spelled
 
-# What a kernel says of one socket: the events of poll(2).
+# The events that poll(2) reports, by descriptor.
 Ready = Dict[int, int]
 Socket = socket.socket
 TYPES = {"stream": socket.SOCK_STREAM, "seqpacket": socket.SOCK_SEQPACKET}
@@ -58,7 +58,7 @@ def libc(call: str, *words: Any):
         raise OSError(number, f"{call}: {os.strerror(number)}")
 
 
-# What a process does.
+# The side of a process: it does the events.
 
 
 def opened(fd: int, kind: str) -> Socket:
@@ -235,7 +235,7 @@ def become(user: int, limit: int, is_privileged: bool):
         libc("capset", header, struct.pack("6I", has, has, 0, 0, 0, 0))
 
 
-# The side that orders.
+# The side that drives the processes.
 
 
 class Process:

@@ -10,13 +10,13 @@ from kernel_differences import Scene, allowed, avoided
 from kernel_processes import Answer, Kernel, Ready, Stuck
 from plain_engine import MAX_MESSAGES, Engine, Event, File
 
-# What is played on an engine. What comes next may depend on the engine and on the replies so far.
+# A script for an engine: the next event may depend on the engine and on the replies so far.
 Script = Callable[[Engine], Iterator[Event]]
 POLLIN, POLLOUT, POLLHUP = 1, 4, 16
 # How often, and every how many seconds, it is asked whether Linux's collector is done; and how
 # often it is woken meanwhile.
 LOOKS, BETWEEN, WAKES = 400, 0.005, 16
-# The reset that Linux tells once, and the layer never.
+# Linux reports a reset once; the layer never does.
 RESET = "ECONNRESET"
 
 

@@ -56,8 +56,8 @@ CYCLING = "spawn fork exit open dup dup2 socket recv peek" + " pair close close 
 CYCLING += " send send" + " meet" * 4
 # The users of a walk, far from those of the machine, and how many numbers each run and walk has.
 FIRST_USER, OF_RUN, OF_WALK, USERS = 10**9, 10**6, 10**4, 16
-# How many faults are shown, and how wide; and Linux may keep garbage twice, and once of so many
-# times.
+# How many faults are shown, and how wide. Linux may keep garbage in two walks, and in one more for
+# each twenty times that there was garbage.
 MOST_SHOWN, WIDTH, MISSED_OF = 3, 300, 20
 
 
