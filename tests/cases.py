@@ -26,7 +26,7 @@ NAME, INDENT = b"== ", b"    "
 ANSWER_COLUMN, WIDTH = 34, 100
 # A line of a script, in quotes or without, and the answer beside it.
 ROW = re.compile(rb"""('(?:[^'\\]|\\.)*'|"(?:[^"\\]|\\.)*"|[^\s'"]\S*(?: \S+)*)(?:  +(\S.*))?""")
-# What needs no quotes: a line of a script, and one of an answer.
+# Text that needs no quotes: a line of a script, and one of an answer.
 BARE_LINE = re.compile(rb"""(?!== |['"])[!-~]+(?: [!-~]+)*\n""")
 BARE_ANSWER = re.compile(rb"""(?!['"])[ -~]*[!-~]\n""")
 WRITTEN = re.compile(rb"[^\n]*\n|[^\n]+")

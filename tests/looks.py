@@ -28,7 +28,7 @@ NO_TRACE = errno.EPERM, errno.EACCES, errno.ENOSYS
 MOST = 20
 # How many lines are written before their replies are read: so few fit into a pipe.
 AT_ONCE = 1_000
-# What was counted, how much it was, and whether that is right.
+# The name of a count, its result, and whether that is right.
 Check = Tuple[str, str, bool]
 
 LIBC = ctypes.CDLL(None, use_errno=True)

@@ -14,7 +14,7 @@ import sys
 from typing import Callable, Dict, Iterator, List, NamedTuple
 
 ROOT = os.path.dirname(os.path.dirname(os.path.realpath(__file__)))
-# What is built, what git keeps, and drafts.
+# Built files, git's own, and drafts.
 SKIPPED = {".git", "out", "target", "__pycache__", "wip"}
 # Data whose lines and files are no code: wrong bodies, and scripts with their answers.
 APART = re.compile(r"crates/\w+/wrong-bodies|tests/cases/|tests/comparison/(seen|scripts)/")
@@ -23,7 +23,7 @@ WIDTHS = {"rt": 100, "antt": 100, "rs": 100, "c": 100, "h": 100, "py": 120, "sh"
 # How many lines a function and a file of code may have.
 FUNCTION = 40
 FILE = 800
-# An event that stands for all: it has been there from the first, and its name is no other word.
+# One event, to count for all: it has been there from the first, and its name is no other word.
 EVENT = "dup2"
 # Of a limit below this all places are shown; of others they would say little.
 SHOWN = 100

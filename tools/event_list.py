@@ -16,7 +16,7 @@ class Unreadable(Exception):
 
 class Refusal(NamedTuple):
     error: str
-    # What it means in this row, or nothing.
+    # Its meaning in this row, or nothing.
     meaning: str
 
 

@@ -32,10 +32,10 @@ class Block:
     """A wrong body as it is written."""
 
     name: str
-    # Where its name stands, from 1 on.
+    # The line of its name, from 1 on.
     line: int
     file: str
-    # What stands behind 'fn:' and the other words, by the word.
+    # The text behind 'fn:' and the other words, by the word.
     named: Dict[str, str] = field(default_factory=dict)
     # Old texts with their new ones.
     pairs: List[Tuple[str, str]] = field(default_factory=list)

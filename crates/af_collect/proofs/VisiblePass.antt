@@ -41,7 +41,7 @@ seen_running Resting b n e = absurd (false≢true e)
 seen_running Marking b n e = refl
 seen_running Sweeping b n e = refl
 
--- What is seen to run, runs.
+-- A pass that is seen to run does run.
 pub runs_seen : (s : Stage) (b begun : World) (n spent : ℕ) → pass_of s b n ≡ Running begun spent → is_running s ≡ true
 runs_seen Resting b begun n spent is = ap runs is
 runs_seen Marking b begun n spent is = refl

@@ -164,7 +164,8 @@ impl Store {
     fn visit(&mut self, file: &FileRef, left: u32) -> u32
         requires marking { self.old.progress.stage ≡ stage.Marking }
         requires some { 0 < left }
-        requires first { IsFirstFrom self.old.progress.visited self.old.world self.old.marks file.now }
+        requires first { IsFirstFrom
+            self.old.progress.visited self.old.world self.old.marks file.now }
         ensures frame { self.new ≡ record self.old {
           marks = self.new.marks;
           pass = self.new.pass;
@@ -212,7 +213,8 @@ impl Store {
     fn sweep(&mut self, file: &FileRef)
         requires sweeping { self.old.progress.stage ≡ stage.Sweeping }
         requires sound { IsSound self.old.world }
-        requires first { IsFirstFrom self.old.progress.swept self.old.world self.old.marks file.now }
+        requires first { IsFirstFrom
+            self.old.progress.swept self.old.world self.old.marks file.now }
         ensures sound { IsSound self.new.world }
         ensures rows { self.new.rows ≡ self.old.rows }
         ensures since { self.new.since ≡ self.old.since }

@@ -49,7 +49,7 @@ returns-then-are_marked-clause-counted c = λ _. counted_all c.requires.running 
 pub returns-then-are_marked-clause-marks : goal.returns-then-are_marked-clause-marks
 returns-then-are_marked-clause-marks c = only-none 0 c.args.self.now
 
--- A pass that sweeps marks no more.
+-- A pass that sweeps no longer marks.
 pub returns-clause-marks : goal.returns-clause-marks
 returns-clause-marks c = λ t. absurd (false≢true (sym (ap is_marking c.sweep_unit.ensures.stage) ∙ t))
 
