@@ -1,6 +1,6 @@
 -- A socket that gets a name, listens, is connected to or accepts: the world stays whole and within
 -- the limits.
-use Rattle.std.proofs.Common.{◌≡◌, ◌<◌, ◌≤◌, ℕ, true, false, ◌⊎◌, inl, inr, List, [], ◌∷◌, ◌++◌, drop, length, refl, sym, ap, ◌∙◌, subst, cond, nat_eq, arith, length-append}
+use Rattle.std.proofs.Common.{◌≡◌, ◌<◌, ◌≤◌, ℕ, Bool, true, false, ◌⊎◌, inl, inr, List, [], ◌∷◌, ◌++◌, drop, length, refl, sym, ap, ◌∙◌, subst, cond, nat_eq, arith, length-append}
 use Rattle.std.specs.Prelude.{Some, is_some}
 use Rattle.std.specs.Option.{option_map_or}
 use Rattle.std.specs.List.{Contains, sum_by}
@@ -13,7 +13,7 @@ use Rattle.af_base.specs.declared.limits.TheConstants.{MAX_BACKLOG}
 use Rattle.af_base.specs.World.{AsSocket, IsLive, Socket, World, is_live}
 use Rattle.af_base.specs.Places.{Holds, attached_in, contents, queue_of}
 use Rattle.af_base.specs.Counts.{one, waiting}
-use Rattle.af_base.specs.Changes.{dequeued, add_file, with_name, connected, listening, queued, with_socket}
+use Rattle.af_base.specs.Changes.{dequeued, add_file, with_name, connected, listening, queued, shut, with_socket}
 use Rattle.af_base.specs.Names.{is_name}
 use Rattle.af_base.specs.Refusals.{is_full, room_of}
 use Rattle.af_base.specs.Steps.{connected_socket, with_embryo}
@@ -25,7 +25,7 @@ use Rattle.af_base.proofs.Lookups.{insert-other, same_or_not, some_same, told_ap
 use Rattle.af_base.proofs.PlaceMoves.{held-changed, live-changed, others-changed, state-others, state-there, there-changed, there-holds, total-changed}
 use Rattle.af_base.proofs.SocketNames.{name-changed, names-bound, names-changed, names-kept}
 use Rattle.af_base.proofs.BlankFiles.{blank-connected, blank-there, held-blank, live-blank, name-blank, still-blank, which-blank, within-blank}
-use Rattle.af_base.proofs.StaysWhole.{has_peer, mutual-changed, not_connected, once-changed, peer_or, whole-socket}
+use Rattle.af_base.proofs.StaysWhole.{has_peer, mutual-changed, not_connected, once-changed, peer_or, whole-changed, whole-socket}
 use Rattle.af_base.proofs.StaysWithin.{socket_same, within-changed}
 
 -- A socket changed within its limits, in all but its queue.
@@ -80,6 +80,23 @@ within-listening w s b x k at idle some low = within-still w s (listening b) x k
   name = before.name;
   messages = before.messages;
 })
+
+-- A socket whose ends are closed.
+pub whole-shut : (w : World) (s : ℕ) (input output : Bool) → IsWhole w → IsWhole (with_socket w s (shut input output))
+whole-shut w s input output k = whole-changed w s (shut input output) (λ x. refl) (λ x. refl) (λ x. refl) (λ x f is h. inl h) k
+
+-- A socket whose ends are closed.
+pub within-shut : (w : World) (s : ℕ) (input output : Bool) → IsWithin w → IsWithin (with_socket w s (shut input output))
+within-shut w s input output k = within-changed w s (shut input output) k
+    (λ y is. let before = k.sockets s y is in record {
+      queue = before.queue;
+      least = before.least;
+      room = before.room;
+      backlog = before.backlog;
+      name = before.name;
+      messages = before.messages;
+    })
+    (let most = k.flying in omega (arith, most, total-changed (λ y. sum_by (λ m. length m.attached) (queue_of y)) w s (shut input output) (λ y. refl)))
 
 -- A socket that was never connected, and is connected now.
 within-connected : (w : World) (s p : ℕ) (x : Socket) → IsWithin w → map.get w.files s ≡ Some (AsSocket x) → x.state ≡ state.Idle → IsWithin (with_socket w s (connected p))

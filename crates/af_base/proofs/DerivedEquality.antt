@@ -8,6 +8,7 @@ use Rattle.std.proofs.lemmas.Bool.Decides.{Decides-eqb}
 use Rattle.std.proofs.lemmas.Slice.Eq.{slice_eq-Decides}
 use denote.Enum.Bare.{same_true}
 use Rattle.af_base.specs.contracts.errno.Errno as errno
+use Rattle.af_base.specs.declared.events.Shutdown.TheVariants.{Both, Read, Write}
 use Rattle.af_base.specs.declared.events.SockType.TheVariants.{Seqpacket, Stream}
 use Rattle.af_base.specs.declared.events.Step.{Step}
 use Rattle.af_base.specs.declared.events.Step.TheVariants as step
@@ -70,6 +71,10 @@ step_same (step.Peek x z t) (step.Peek y w u) e =
     let k = both _ _ h.1 in
     λ i. step.Peek (eqb-true x y h.0 i) (eqb-true z w k.0 i) (eqb-true t u k.1 i)
 step_same (step.Limit x) (step.Limit y) e = ap step.Limit (eqb-true x y e)
+step_same (step.Shutdown x Read) (step.Shutdown y Read) e = ap (λ n. step.Shutdown n Read) (eqb-true x y (both _ _ e).0)
+step_same (step.Shutdown x Write) (step.Shutdown y Write) e = ap (λ n. step.Shutdown n Write) (eqb-true x y (both _ _ e).0)
+step_same (step.Shutdown x Both) (step.Shutdown y Both) e = ap (λ n. step.Shutdown n Both) (eqb-true x y (both _ _ e).0)
+step_same (step.Shutdown x _) (step.Shutdown y _) e = absurd (false≢true (both _ _ e).1)
 step_same a b e = absurd (false≢true e)
 
 -- A step compares equal to itself.
@@ -92,6 +97,9 @@ step_itself (step.Send x z t) = each _ _ (number_itself x) (each _ _ (list_itsel
 step_itself (step.Recv x z t) = each _ _ (number_itself x) (each _ _ (number_itself z) (number_itself t))
 step_itself (step.Peek x z t) = each _ _ (number_itself x) (each _ _ (number_itself z) (number_itself t))
 step_itself (step.Limit x) = number_itself x
+step_itself (step.Shutdown x Read) = each _ _ (number_itself x) refl
+step_itself (step.Shutdown x Write) = each _ _ (number_itself x) refl
+step_itself (step.Shutdown x Both) = each _ _ (number_itself x) refl
 
 -- Events that compare equal are equal.
 pub event_same : (a b : Event) → event_eq.ghosts.eq a b ≡ true → a ≡ b

@@ -6,7 +6,7 @@ use Rattle.std.specs.List.{Contains, zip}
 use Rattle.std.specs.Ordering.{nat_cmp, eq_by_cmp}
 use Rattle.std.specs.FinMap as map
 use Rattle.af_base.specs.declared.errno.Errno.{Errno}
-use Rattle.af_base.specs.declared.errno.Errno.TheVariants.{EAGAIN}
+use Rattle.af_base.specs.declared.errno.Errno.TheVariants.{EAGAIN, EPIPE}
 use Rattle.af_base.specs.declared.events.Reply.{Reply}
 use Rattle.af_base.specs.declared.events.State.{State}
 use Rattle.af_base.specs.declared.events.State.TheVariants as state
@@ -17,13 +17,13 @@ use Rattle.af_base.specs.declared.ready.Ready.{Ready}
 use Rattle.af_base.specs.Told.{AreChanged, TellsChanged, is_socket_in}
 use Rattle.af_base.specs.World.{AsSocket, File, IsLive, Plain, Since, Socket, World}
 use Rattle.af_base.specs.Places.{queue_in, queue_of}
-use Rattle.af_base.specs.Changes.{add_file, connected, dequeued, file_with, install, install_all, listening, pushed, queued, with_name, with_queue, with_socket}
+use Rattle.af_base.specs.Changes.{add_file, connected, dequeued, file_with, install, install_all, listening, pushed, queued, shut, with_name, with_queue, with_socket}
 use Rattle.af_base.specs.Pass.{Purges, emptied, empty_file}
-use Rattle.af_base.specs.Refusals.{first_fit, ino_named, ino_on, is_hung_up, no_socket, on_peer, peer_of, socket_on, socket_of}
-use Rattle.af_base.specs.Steps.{Outcome, ProcessStep, connected_socket, effect, got_at, idle_socket, taken_on}
+use Rattle.af_base.specs.Refusals.{first_fit, ino_named, ino_on, is_deaf_in, no_socket, on_peer, peer_of, socket_on, socket_of}
+use Rattle.af_base.specs.Steps.{Outcome, ProcessStep, closes_input, closes_output, connected_socket, effect, got_at, idle_socket, taken_on}
 use Rattle.af_base.specs.Unheld.{Settles, file_without, state_without}
 use Rattle.af_base.specs.Whole.{IsWhole, state_at, state_of}
-use Rattle.af_base.specs.Ready.{Blank, Face, IsLeftAlone, Shows, face_at, face_in, face_of, reads, ready, ready_of, touched}
+use Rattle.af_base.specs.Ready.{Blank, Face, IsLeftAlone, Shows, face_at, face_in, face_of, is_cut_off, reads, ready, ready_of, touched}
 use Rattle.af_base.proofs.Elements.{Contains-first, Contains-later}
 use Rattle.af_base.proofs.Lookups.{insert-other, told_apart}
 use Rattle.af_base.proofs.PlaceMoves.{others-changed, state-there}
@@ -35,27 +35,45 @@ use Rattle.af_base.proofs.StaysWhole.{not_connected, peer_or}
 -- The peer of a face.
 abbrev talks : Face → State
 talks Blank = state.Idle
-talks (Shows r full t) = t
+talks (Shows r full t e) = t
 
 -- Whether a face says that the queue is full.
 abbrev full_of : Option Face → Bool
 full_of None = false
 full_of (Some Blank) = false
-full_of (Some (Shows r full t)) = full
+full_of (Some (Shows r full t e)) = full
 
--- The readiness of a face, by whether its peer's queue is full.
-abbrev ready_by : Face → Bool → Ready
-ready_by Blank full = record { readable = true; writable = true; hung_up = false }
-ready_by (Shows r own t) full = record { readable = r; writable = is_none (first_fit (on_peer (record no_socket { state = t }) ++ (full, EAGAIN) ∷ [])); hung_up = is_hung_up t }
+-- Whether a face says that the input is closed.
+abbrev deaf_of : Option Face → Bool
+deaf_of None = false
+deaf_of (Some Blank) = false
+deaf_of (Some (Shows r full t e)) = e.no_input
+
+-- The readiness of a face, by that of its peer.
+abbrev ready_by : Face → Option Face → Ready
+ready_by Blank peer = record { readable = true; writable = true; hung_up = false }
+ready_by (Shows r own t e) peer = let s = record no_socket { state = t; ends = e } in record {
+  readable = r;
+  writable = is_none (first_fit (on_peer s ++ (deaf_of peer, EPIPE) ∷ (full_of peer, EAGAIN) ∷ []));
+  hung_up = is_cut_off s;
+}
 
 -- The readiness of a file, by faces alone.
 abbrev by_faces : (ℕ → Option Face) → Option Face → Option Ready
-by_faces face o = option_map (λ x. ready_by x (full_of (face (peer_of (talks x))))) o
+by_faces face o = option_map (λ x. ready_by x (face (peer_of (talks x)))) o
 
 -- Whether a queue is full, its file's face says.
 full-face : (w : World) (q : ℕ) → nat_le MAX_MESSAGES (length (queue_in w.files q)) ≡ full_of (face_at w q)
 full-face w q = by (map.get w.files q) where
   by : (o : Option File) → nat_le MAX_MESSAGES (length (option_map_or queue_of o [])) ≡ full_of (option_map face_of o)
+  by None = refl
+  by (Some Plain) = refl
+  by (Some (AsSocket s)) = refl
+
+-- Whether an input is closed, its file's face says.
+deaf-face : (w : World) (q : ℕ) → is_deaf_in w.files q ≡ deaf_of (face_at w q)
+deaf-face w q = by (map.get w.files q) where
+  by : (o : Option File) → option_map_or (λ s. s.ends.no_input) (option_and_then socket_of o) false ≡ deaf_of (option_map face_of o)
   by None = refl
   by (Some Plain) = refl
   by (Some (AsSocket s)) = refl
@@ -74,7 +92,13 @@ ready-faces w f = by (map.get w.files f) where
   by : (o : Option File) → option_map (ready_of w.files) o ≡ by_faces (face_at w) (option_map face_of o)
   by None = refl
   by (Some Plain) = refl
-  by (Some (AsSocket s)) = ap (λ b. Some (ready_by (face_of (AsSocket s)) b)) (full-face w (peer_of s.state))
+  by (Some (AsSocket s)) =
+      let peer = peer_of s.state in
+      λ i. Some (record {
+        readable = reads s;
+        writable = is_none (first_fit (on_peer s ++ (deaf-face w peer i, EPIPE) ∷ (full-face w peer i, EAGAIN) ∷ []));
+        hung_up = is_cut_off s;
+      })
 
 -- Where a file and its peer have the faces that they had, it is ready for what it was.
 pub same-ready : (v w : World) (f : ℕ) → face_at v f ≡ face_at w f → ((q : ℕ) → state_at w f ≡ state.Connected q → face_at v q ≡ face_at w q) → ready v f ≡ ready w f
@@ -83,10 +107,10 @@ same-ready v w f same peer = ready-faces v f ∙ ap (by_faces (face_at v)) same 
   each None e = refl
   each (Some Plain) e = refl
   each (Some (AsSocket s)) e = by s.state refl where
-    by : (t : State) → s.state ≡ t → by_faces (face_at v) (Some (Shows (reads s) (nat_le MAX_MESSAGES (length s.queue)) t)) ≡ by_faces (face_at w) (Some (Shows (reads s) (nat_le MAX_MESSAGES (length s.queue)) t))
+    by : (t : State) → s.state ≡ t → by_faces (face_at v) (Some (Shows (reads s) (nat_le MAX_MESSAGES (length s.queue)) t s.ends)) ≡ by_faces (face_at w) (Some (Shows (reads s) (nat_le MAX_MESSAGES (length s.queue)) t s.ends))
     by state.Idle d = refl
     by (state.Listening b) d = refl
-    by (state.Connected q) d = ap (λ o. Some (ready_by (Shows (reads s) (nat_le MAX_MESSAGES (length s.queue)) (state.Connected q)) (full_of o))) (peer q (state-there w f (AsSocket s) e ∙ d))
+    by (state.Connected q) d = ap (λ o. Some (ready_by (Shows (reads s) (nat_le MAX_MESSAGES (length s.queue)) (state.Connected q) s.ends) o)) (peer q (state-there w f (AsSocket s) e ∙ d))
     by state.HungUp d = refl
 
 -- A file that was not touched is not the first that was.
@@ -147,6 +171,12 @@ effect-faces w p (step.Recv k max_bytes max_fds) f low n =
     ∙ face-other w (ino_on w p k) (λ x. record x { queue = taken.rest }) f (not-first (ino_on w p k) [] f n)
 effect-faces w p (step.Peek k max_bytes max_fds) f low n = ap (λ fs. face_in fs f) (files-installed w p (zip (got_at w p k max_bytes max_fds) (taken_on w p k max_bytes).attached))
 effect-faces w p (step.Limit k) f low n = refl
+effect-faces w p (step.Shutdown k how) f low n =
+    let s = ino_on w p k in
+    let peer = peer_of (socket_on w p k).state in
+    let own = shut (closes_input how) (closes_output how) in
+    face-other (with_socket w s own) peer (shut (closes_output how) (closes_input how)) f (not-first peer [] f (λ h. n (Contains-later s (peer ∷ []) f h)))
+    ∙ face-other w s own f (not-first s (peer ∷ []) f n)
 
 -- Settling keeps the face of each file that stays live, and no such file has a peer that is freed.
 pub settles-faces : (mid new : World) → Settles mid new → (f : ℕ) → IsLive new f → ((q : ℕ) → state_at mid f ≡ state.Connected q → IsLive new q) → face_at new f ≡ face_at mid f

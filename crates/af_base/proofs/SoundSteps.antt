@@ -1,6 +1,6 @@
 -- Each step of a process, and each start of one, leaves the world sound.
 use Rattle.std.proofs.Common.{◌≡◌, ◌<◌, ◌≤◌, ℕ, zero, suc, ◌+◌, Bool, true, false, not, ◌&&◌, inl, inr, List, [], ◌∷◌, ◌++◌, length, refl, sym, ap, ◌∙◌, subst, nat_eq, arith}
-use Rattle.std.specs.Prelude.{Option, Some, None, is_some, is_none, unwrap_or, filter_map, nat_le, slice_get, if◌then◌else◌, ⊤}
+use Rattle.std.specs.Prelude.{◌||◌, Option, Some, None, is_some, is_none, unwrap_or, filter_map, nat_le, slice_get, if◌then◌else◌, ⊤}
 use Rattle.std.specs.Option.{option_and_then, option_map_or, option_or}
 use Rattle.std.specs.List.{Contains, cons_option}
 use Rattle.std.specs.Ordering.{nat_cmp}
@@ -23,11 +23,11 @@ use Rattle.af_base.specs.Changes.{dequeued, add_file, install, with_queue}
 use Rattle.af_base.specs.Names.{named}
 use Rattle.af_base.specs.Reached.{ByTable, BySocket}
 use Rattle.af_base.specs.Refusals.{RefusalRow, first_fit, ino_named, ino_on, is_connected, is_hung_up, is_listening, is_short, no_process, no_socket, peer_of, process_at, refusal, room_of, socket_at, socket_named, socket_of, socket_on, spawn_refusal, spawn_row, step_row}
-use Rattle.af_base.specs.Steps.{Outcome, ProcessStep, SpawnStep, answer, effect, first_embryo, free_at, got_at, idle_socket, needs_no_memory, spawned, taken_on, with_pair}
+use Rattle.af_base.specs.Steps.{Outcome, ProcessStep, SpawnStep, answer, closes_input, closes_output, effect, first_embryo, free_at, got_at, idle_socket, needs_no_memory, spawned, taken_on, with_pair}
 use Rattle.af_base.specs.Table.{free_numbers}
 use Rattle.af_base.specs.Take.{TakeResult}
 use Rattle.af_base.specs.Whole.{IsSound, IsWhole, state_at, state_of}
-use Rattle.af_base.proofs.StepChanges.{Changed, IsKnown, changed-accept, changed-embryo, changed-exit, changed-install, changed-installs, changed-limit, changed-listen, changed-name, changed-pair, changed-plain, changed-process, changed-push, changed-socket, changed-take, changed-uninstall, changed-user, unchanged}
+use Rattle.af_base.proofs.StepChanges.{Changed, IsKnown, changed-accept, changed-embryo, changed-exit, changed-install, changed-installs, changed-limit, changed-listen, changed-name, changed-pair, changed-plain, changed-process, changed-push, changed-shut, changed-socket, changed-take, changed-uninstall, changed-user, unchanged}
 use Rattle.af_base.proofs.Elements.{Contains-first, Contains-none, Contains-rest}
 use Rattle.af_base.proofs.Free.{free-free_numbers, free-lowest_free}
 use Rattle.af_base.proofs.Lookups.{insert-here, none_some, not_same, same_or_not, some_same, told_apart}
@@ -94,8 +94,8 @@ pub passes-on : (rows more : RefusalRow) → first_fit rows ≡ None → first_f
 passes-on rows more is = joined rows more ∙ ap (λ o. option_or o (first_fit more)) is
 
 -- A socket that can talk to its peer is connected to it.
-pub connected-to : {More : Type 0} (s : Socket) → Passed (not (is_connected s.state)) (Passed (is_hung_up s.state) More) → s.state ≡ state.Connected (peer_of s.state)
-connected-to s tests = by s.state tests.here tests.rest.here where
+pub connected-to : {More : Type 0} (s : Socket) → Passed (not (is_connected s.state)) (Passed (is_hung_up s.state || s.ends.no_output) More) → s.state ≡ state.Connected (peer_of s.state)
+connected-to s tests = by s.state tests.here (neither _ _ tests.rest.here).0 where
   by : (t : State) → not (is_connected t) ≡ false → is_hung_up t ≡ false → t ≡ state.Connected (peer_of t)
   by state.Idle e d = absurd (false≢true (sym e))
   by (state.Listening b) e d = absurd (false≢true (sym e))
@@ -242,11 +242,12 @@ module _ (w : World) (p : ℕ) (whole : IsWhole w) (at : map.get w.processes p �
       let there = socket-there w p n row.here row.rest.here in
       let deaf = row.rest.rest in
       let heard = deaf.rest.rest in
-      let listener_is = listener-there w name heard.here in
+      let listens = (neither _ _ heard.here).0 in
+      let listener_is = listener-there w name listens in
       let room = heard.rest.rest in
       let apart = told_apart (ino_named w name) (ino_on w p n) (λ same.
       let one_socket : listener ≡ s = socket_same listener s (some_same _ _ (sym listener_is ∙ ap (map.get w.files) same ∙ there)) in
-      false≢true (sym deaf.here ∙ ap (λ x. is_listening x.state) (sym one_socket) ∙ holds heard.here)) in
+      false≢true (sym deaf.here ∙ ap (λ x. is_listening x.state) (sym one_socket) ∙ holds listens)) in
       changed-embryo (unchanged w) (ino_on w p n) (ino_named w name) listener.kind s listener there (never-connected s.state deaf.rest.here deaf.here) listener_is apart room.rest.here (leb-false (room_of listener.state) (length listener.backlog) room.here) (omega arith)
 
   -- An embryo accepted.
@@ -273,7 +274,7 @@ module _ (w : World) (p : ℕ) (whole : IsWhole w) (at : map.get w.processes p �
       let few = attached-most w p attach in
       let low = ltb-false SCM_MAX_FD (length attach) some.1 in
       let flying = ltb-false MAX_INFLIGHT (total w + length attach) room.here in
-      let waiting : length peer.0.queue < MAX_MESSAGES = subst (λ o. length (option_map_or queue_of o []) < MAX_MESSAGES) peer.1 (leb-false MAX_MESSAGES (length (queue_at w (peer_of s.state))) room.rest.here) in
+      let waiting : length peer.0.queue < MAX_MESSAGES = subst (λ o. length (option_map_or queue_of o []) < MAX_MESSAGES) peer.1 (leb-false MAX_MESSAGES (length (queue_at w (peer_of s.state))) room.rest.rest.here) in
       changed-push (unchanged w) (peer_of s.state) _ peer.0 peer.1 (λ g h. let t = attached-tabled w p attach g h in (whole.tables_live g (p, t.0, t.1), inl (ByTable g (p, t.0, t.1))))
       (record { some = positive (length bytes) some.0; bytes = ltb-false MAX_BYTES (length bytes) numbers.rest.here; attached = omega (arith, few, low) }) waiting (omega (arith, few, flying)) where
         positive : (k : ℕ) → nat_eq k 0 ≡ false → 1 ≤ k
@@ -321,6 +322,7 @@ module _ (w : World) (p : ℕ) (whole : IsWhole w) (at : map.get w.processes p �
   changes-row (step.Recv n max_bytes max_fds) row = receives n max_bytes max_fds row
   changes-row (step.Peek n max_bytes max_fds) row = peeks n max_bytes max_fds row
   changes-row (step.Limit n) row = changed-limit (unchanged w) p n (ltb-false MAX_NOFILE n row.here)
+  changes-row (step.Shutdown n how) row = changed-shut (changed-shut (unchanged w) (ino_on w p n) (closes_input how) (closes_output how)) (peer_of (socket_on w p n).state) (closes_output how) (closes_input how)
 
 -- The change of a step that is not refused, before the world settles.
 pub effect-changes : (w : World) (p : ℕ) (s : Step) → IsWhole w → refusal w p s ≡ None → Changed w (effect w p s)

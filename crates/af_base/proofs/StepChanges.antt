@@ -9,7 +9,7 @@ use Rattle.af_base.specs.declared.limits.TheConstants.{MAX_BACKLOG, MAX_INFLIGHT
 use Rattle.af_base.specs.World.{AsSocket, File, IsLive, Map, Message, Plain, Process, Socket, World}
 use Rattle.af_base.specs.Places.{Holds, InTable, contents}
 use Rattle.af_base.specs.Counts.{total}
-use Rattle.af_base.specs.Changes.{add_file, add_process, add_user, connected, dequeued, install, install_all, listening, push_message, pushed, queued, remove_process, set_limit, uninstall, with_name, with_queue, with_socket}
+use Rattle.af_base.specs.Changes.{add_file, add_process, add_user, connected, dequeued, install, install_all, listening, push_message, pushed, queued, remove_process, set_limit, shut, uninstall, with_name, with_queue, with_socket}
 use Rattle.af_base.specs.Names.{is_name, named}
 use Rattle.af_base.specs.Reached.{Reached}
 use Rattle.af_base.specs.Refusals.{is_at_process_limit, is_full, room_of}
@@ -17,7 +17,7 @@ use Rattle.af_base.specs.Steps.{connected_socket, idle_socket, with_embryo, with
 use Rattle.af_base.specs.Take.{take_from}
 use Rattle.af_base.specs.Whole.{IsMessageWithin, IsProcessWithin, IsWhole, IsWithin}
 use Rattle.af_base.proofs.NewFiles.{whole-add_process, whole-add_user}
-use Rattle.af_base.proofs.Connections.{whole-accepted, whole-bound, whole-embryo, whole-listening, within-accepted, within-bound, within-embryo, within-listening}
+use Rattle.af_base.proofs.Connections.{whole-accepted, whole-bound, whole-embryo, whole-listening, whole-shut, within-accepted, within-bound, within-embryo, within-listening, within-shut}
 use Rattle.af_base.proofs.Elements.{Contains-first, Contains-later}
 use Rattle.af_base.proofs.ProcessExits.{tabled-remove, whole-remove_process, within-remove_process}
 use Rattle.af_base.proofs.Free.{AreFree, first-low, rest-free}
@@ -137,6 +137,10 @@ module _ {old w : World} (c : Changed old w) where
   -- A socket becomes a listener.
   pub changed-listen : (s b : ℕ) (x : Socket) → map.get w.files s ≡ Some (AsSocket x) → x.state ≡ state.Idle → 1 ≤ b → b ≤ MAX_BACKLOG → Changed old (with_socket w s (listening b))
   changed-listen s b x at idle some low = sets s (listening b) (still-holds old w s (listening b) (λ z. refl)) (λ k. (whole-listening w s b x at idle k.0, within-listening w s b x k.1 at idle some low))
+
+  -- Ends of a socket are closed.
+  pub changed-shut : (s : ℕ) (input output : Bool) → Changed old (with_socket w s (shut input output))
+  changed-shut s input output = sets s (shut input output) (still-holds old w s (shut input output) (λ z. refl)) (λ k. (whole-shut w s input output k.0, within-shut w s input output k.1))
 
   -- The first embryo leaves a backlog.
   pub changed-accept : (s : ℕ) (x : Socket) → map.get w.files s ≡ Some (AsSocket x) → Changed old (with_socket w s dequeued)

@@ -1,9 +1,10 @@
 -- How a world is changed: a value in a map, a table, a socket, a file or a process more.
 -- Definitions that name no manual page are of this project's profile (docs/PROFILE.md).
-use Rattle.std.specs.Prelude.{ℕ, ◌+◌, List, [], ◌∷◌, ◌++◌, Some, drop, nat_eq, if◌then◌else◌}
+use Rattle.std.specs.Prelude.{ℕ, ◌+◌, Bool, ◌||◌, List, [], ◌∷◌, ◌++◌, Some, drop, nat_eq, if◌then◌else◌}
 use Rattle.std.specs.List.{list_any}
 use Rattle.std.specs.Option.{option_map_or}
 use Rattle.std.specs.FinMap as map
+use Rattle.af_base.specs.declared.events.Ends.{Ends}
 use Rattle.af_base.specs.declared.events.State.TheVariants as state
 use Rattle.af_base.specs.World.{World, Map, Process, File, Socket, Message, Plain, AsSocket}
 
@@ -76,6 +77,17 @@ listening b s = record s { state = state.Listening b }
 -- A socket that is connected to f (connect(2)).
 abbrev pub connected : ℕ → Socket → Socket
 connected f s = record s { state = state.Connected f }
+
+-- Ends, of which the input is closed if this says so, and the output if that does (shutdown(2)).
+abbrev pub closed : Bool → Bool → Ends → Ends
+closed input output e = record {
+  no_input = e.no_input || input;
+  no_output = e.no_output || output;
+}
+
+-- A socket with its ends closed so (shutdown(2)).
+abbrev pub shut : Bool → Bool → Socket → Socket
+shut input output s = record s { ends = closed input output s.ends }
 
 -- A listener with an embryo more, last in its backlog (connect(2)).
 abbrev pub queued : ℕ → Socket → Socket

@@ -1,8 +1,9 @@
 -- The readiness of a file (poll(2)), and the files whose readiness a step can change. Definitions
 -- that name no manual page are this project's own.
-use Rattle.std.specs.Prelude.{◌≡◌, ℕ, Bool, true, false, Option, ◌||◌, ◌++◌, List, [], ◌∷◌, is_none, length, nat_le, option_map}
+use Rattle.std.specs.Prelude.{◌≡◌, ℕ, Bool, true, false, Option, ◌||◌, ◌&&◌, ◌++◌, List, [], ◌∷◌, is_none, length, nat_le, option_map}
 use Rattle.std.specs.List.{Contains}
 use Rattle.std.specs.FinMap as map
+use Rattle.af_base.specs.declared.events.Ends.{Ends}
 use Rattle.af_base.specs.declared.events.State.{State}
 use Rattle.af_base.specs.declared.events.State.TheVariants as state
 use Rattle.af_base.specs.declared.events.Step.{Step}
@@ -11,24 +12,29 @@ use Rattle.af_base.specs.declared.limits.TheConstants.{MAX_MESSAGES}
 use Rattle.af_base.specs.declared.ready.Ready.{Ready}
 use Rattle.af_base.specs.World.{AsSocket, File, IsLive, Map, Message, Plain, Socket, World}
 use Rattle.af_base.specs.Places.{queue_in}
-use Rattle.af_base.specs.Refusals.{at_socket, first_fit, ino_named, ino_on, is_hung_up, on_accept, on_peer, on_process, on_receive, on_room, peer_of, refusal, socket_on}
+use Rattle.af_base.specs.Refusals.{at_socket, first_fit, ino_named, ino_on, is_deaf_in, is_hung_up, on_accept, on_input, on_peer, on_process, on_receive, on_room, peer_of, refusal, socket_on}
 use Rattle.af_base.specs.Whole.{state_at}
 
 -- A receive of a byte from this socket, or an accept at it, is not refused (poll(2), POLLIN).
 abbrev pub reads : Socket → Bool
 reads s = is_none (first_fit (on_receive s 1)) || is_none (first_fit (on_accept s))
 
--- This socket has a peer, whose queue, which is this one, has room (poll(2), POLLOUT).
-abbrev pub writes : Socket → List Message → Bool
-writes s queue = is_none (first_fit (on_peer s ++ on_room queue))
+-- This socket, whose output is open, has a peer whose input is open, if it is not deaf, and whose
+-- queue, which is this one, has room (poll(2), POLLOUT).
+abbrev pub writes : Socket → Bool → List Message → Bool
+writes s deaf queue = is_none (first_fit (on_peer s ++ on_input deaf ++ on_room queue))
+
+-- Its peer was freed, or both its ends are closed (poll(2), POLLHUP).
+abbrev pub is_cut_off : Socket → Bool
+is_cut_off s = is_hung_up s.state || (s.ends.no_input && s.ends.no_output)
 
 -- The readiness of a file among these: a plain file is always ready (poll(2)).
 abbrev pub ready_of : Map File → File → Ready
 ready_of files Plain = record { readable = true; writable = true; hung_up = false }
 ready_of files (AsSocket s) = record {
   readable = reads s;
-  writable = writes s (queue_in files (peer_of s.state));
-  hung_up = is_hung_up s.state;
+  writable = writes s (is_deaf_in files (peer_of s.state)) (queue_in files (peer_of s.state));
+  hung_up = is_cut_off s;
 }
 
 -- The readiness of the file f of these; an unknown file is not ready (poll(2)).
@@ -41,25 +47,25 @@ ready w f = ready_in w.files f
 
 -- The readiness that steps of process p find at descriptor n: readable if a receive of one byte
 -- without descriptors is not refused, or an accept is not before it needs a descriptor; writable if
--- a send of one byte is not refused; hung up if the peer was freed.
+-- a send of one byte is not refused; hung up if the peer was freed or both ends are closed.
 abbrev pub found : World → ℕ → ℕ → Ready
 found w p n = record {
   readable = is_none (refusal w p (step.Recv n 1 0)) || is_none (first_fit
       (on_process (map.get w.processes p) ++ (at_socket w p n ++ on_accept (socket_on w p n))));
   writable = is_none (refusal w p (step.Send n (0 ∷ []) []));
-  hung_up = is_hung_up (socket_on w p n).state;
+  hung_up = is_cut_off (socket_on w p n);
 }
 
 -- The face of a file, from which its own and its peer's readiness follow: whether it is readable,
--- whether its queue is full, and its peer.
+-- whether its queue is full, its peer, and which of its ends are closed.
 pub data Face : Type 0 where
   Blank : Face
-  Shows : (reads : Bool) → (full : Bool) → (state : State) → Face
+  Shows : (reads : Bool) → (full : Bool) → (state : State) → (ends : Ends) → Face
 
 -- The face of a file.
 abbrev pub face_of : File → Face
 face_of Plain = Blank
-face_of (AsSocket s) = Shows (reads s) (nat_le MAX_MESSAGES (length s.queue)) s.state
+face_of (AsSocket s) = Shows (reads s) (nat_le MAX_MESSAGES (length s.queue)) s.state s.ends
 
 -- The face of the file f of these.
 abbrev pub face_in : Map File → ℕ → Option Face
@@ -69,7 +75,7 @@ face_in files f = option_map face_of (map.get files f)
 abbrev pub face_at : World → ℕ → Option Face
 face_at w f = face_in w.files f
 
--- The files whose own queue, backlog or state a step of process p changes, of those that were
+-- The files whose own queue, backlog, state or ends a step of process p changes, of those that were
 -- there, but for those whose peer is freed.
 abbrev pub touched : World → ℕ → Step → List ℕ
 touched w p (step.Listen n b) = ino_on w p n ∷ []
@@ -77,6 +83,7 @@ touched w p (step.Connect n name) = ino_on w p n ∷ ino_named w name ∷ []
 touched w p (step.Accept n) = ino_on w p n ∷ []
 touched w p (step.Send n bytes attach) = peer_of (socket_on w p n).state ∷ []
 touched w p (step.Recv n max_bytes max_fds) = ino_on w p n ∷ []
+touched w p (step.Shutdown n how) = ino_on w p n ∷ peer_of (socket_on w p n).state ∷ []
 touched w p s = []
 
 -- The file f is not one of these, and its peer, if it has one, is live and is not one either.

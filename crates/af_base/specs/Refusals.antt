@@ -2,7 +2,7 @@
 -- the answer (this project's profile, after the manual page of each call).
 use Rattle.std.specs.Prelude.{ℕ, ◌+◌, Bool, true, false, not, ◌&&◌, ◌||◌, List, [], ◌∷◌, ◌++◌, length, Option, Some, None, is_none, is_some, unwrap_or, nat_eq, nat_lt, nat_le, if◌then◌else◌}
 use Rattle.std.specs.List.{list_any}
-use Rattle.std.specs.Option.{option_and_then}
+use Rattle.std.specs.Option.{option_and_then, option_map_or}
 use Rattle.std.specs.FinMap as map
 use Rattle.af_base.specs.declared.events.SockType.{SockType}
 use Rattle.af_base.specs.declared.events.SockType.TheVariants.{Seqpacket, Stream}
@@ -13,7 +13,7 @@ use Rattle.af_base.specs.declared.errno.Errno.TheVariants.{EADDRINUSE, EAGAIN, E
 use Rattle.af_base.specs.declared.events.Step.{Step}
 use Rattle.af_base.specs.declared.events.Step.TheVariants as step
 use Rattle.af_base.specs.declared.limits.TheConstants.{MAX_PROCESSES, MAX_NOFILE, MAX_FILES, MAX_MESSAGES, MAX_BYTES, SCM_MAX_FD, MAX_BACKLOG, MAX_INFLIGHT, MAX_PID, MAX_INO}
-use Rattle.af_base.specs.World.{World, Map, Message, Process, Socket, File, Plain, AsSocket}
+use Rattle.af_base.specs.World.{World, Map, Message, Process, Socket, File, Plain, AsSocket, open_ends}
 use Rattle.af_base.specs.Places.{table_at, queue_at}
 use Rattle.af_base.specs.Counts.{charged, total}
 use Rattle.af_base.specs.Names.{is_between, is_name, named}
@@ -26,7 +26,14 @@ no_process = record { user = 0; limit = 0; privileged = false; table = map.empty
 
 -- Stands for a socket that is not there.
 abbrev pub no_socket : Socket
-no_socket = record { kind = Seqpacket; state = state.Idle; name = None; queue = []; backlog = [] }
+no_socket = record {
+  kind = Seqpacket;
+  state = state.Idle;
+  name = None;
+  ends = open_ends;
+  queue = [];
+  backlog = [];
+}
 
 -- The process p of these.
 abbrev pub process_in : Map Process → ℕ → Process
@@ -44,6 +51,15 @@ socket_of (AsSocket s) = Some s
 -- The socket of this inode number.
 abbrev pub socket_at : World → ℕ → Option Socket
 socket_at w f = option_and_then socket_of (map.get w.files f)
+
+-- Whether the file f of these is a socket whose input is closed (shutdown(2)).
+abbrev pub is_deaf_in : Map File → ℕ → Bool
+is_deaf_in files f =
+    option_map_or (λ s. s.ends.no_input) (option_and_then socket_of (map.get files f)) false
+
+-- The same of a world.
+abbrev pub is_deaf : World → ℕ → Bool
+is_deaf w f = is_deaf_in w.files f
 
 -- The inode number that process p has at n.
 abbrev pub ino_on : World → ℕ → ℕ → ℕ
@@ -186,11 +202,11 @@ on_listen s b = (
 abbrev pub on_client : State → RefusalRow
 on_client s = (is_listening s, EINVAL) ∷ (is_connected s, EISCONN) ∷ []
 
--- A connect needs a listener of the same type with room in its backlog (connect(2), ECONNREFUSED,
--- EPROTOTYPE, EAGAIN).
+-- A connect needs a listener, whose input is open, of the same type with room in its backlog
+-- (connect(2), ECONNREFUSED, EPROTOTYPE, EAGAIN).
 abbrev pub on_listener : Socket → SockType → RefusalRow
 on_listener s kind =
-    (not (is_listening s.state), ECONNREFUSED)
+    (not (is_listening s.state) || s.ends.no_input, ECONNREFUSED)
     ∷ (not (is_same_type s.kind kind), EPROTOTYPE)
     ∷ (nat_le (room_of s.state) (length s.backlog), EAGAIN)
     ∷ []
@@ -208,9 +224,13 @@ on_parts look bytes attach =
     ∷ (list_any (λ n. is_none (look n)) attach, EBADF)
     ∷ []
 
--- A socket of this state must have somebody to talk to (sendmsg(2), ENOTCONN, EPIPE).
+-- A sending socket must have somebody to talk to, and its output be open (sendmsg(2), ENOTCONN,
+-- EPIPE).
 abbrev pub on_peer : Socket → RefusalRow
-on_peer s = (not (is_connected s.state), ENOTCONN) ∷ (is_hung_up s.state, EPIPE) ∷ []
+on_peer s =
+    (not (is_connected s.state), ENOTCONN)
+    ∷ (is_hung_up s.state || s.ends.no_output, EPIPE)
+    ∷ []
 
 -- A message with this many files must not be too much in flight, for a user with this charge and
 -- limit, where all users together have that total (unix(7), ETOOMANYREFS; that the new ones do not
@@ -220,6 +240,10 @@ on_charge charge total limit privileged files =
     (nat_lt 0 files && (not privileged && nat_lt limit charge), ETOOMANYREFS)
     ∷ (nat_lt MAX_INFLIGHT (total + files), ENOBUFS)
     ∷ []
+
+-- The input of the peer must be open (shutdown(2), sendmsg(2), EPIPE).
+abbrev pub on_input : Bool → RefusalRow
+on_input deaf = (deaf, EPIPE) ∷ []
 
 -- The queue must have room for a message more (sendmsg(2), EAGAIN).
 abbrev pub on_room : List Message → RefusalRow
@@ -231,7 +255,7 @@ abbrev pub on_receive : Socket → ℕ → RefusalRow
 on_receive s max_bytes =
     (not (is_between 1 MAX_BYTES max_bytes), EINVAL)
     ∷ (not (is_connected s.state), ENOTCONN)
-    ∷ (nat_eq (length s.queue) 0 && not (is_hung_up s.state), EAGAIN)
+    ∷ (nat_eq (length s.queue) 0 && not (is_hung_up s.state || s.ends.no_input), EAGAIN)
     ∷ []
 
 -- ---- The rows, each the joining of its parts.
@@ -250,7 +274,7 @@ spawn_row w nofile = on_limit nofile ++ on_processes w
 
 -- Why a step of a running process is refused, but for out of memory: open(2), dup(2), dup2(2),
 -- close(2), fork(2), _exit(2), socketpair(2), socket(2), bind(2), listen(2), connect(2), accept(2),
--- sendmsg(2), recvmsg(2), setrlimit(2).
+-- sendmsg(2), recvmsg(2), setrlimit(2), shutdown(2).
 abbrev pub step_row : World → ℕ → Step → RefusalRow
 step_row w p step.Open = on_free (process_at w p) 1 ++ on_files w 1
 step_row w p (step.Dup n) = on_number (table_at w p n) ++ on_free (process_at w p) 1
@@ -275,10 +299,12 @@ step_row w p (step.Send n bytes attach) =
     ++ on_parts (table_at w p) bytes attach
     ++ on_peer s
     ++ on_charge (charged w q.user) (total w) q.limit q.privileged (length attach)
+    ++ on_input (is_deaf w (peer_of s.state))
     ++ on_room (queue_at w (peer_of s.state))
 step_row w p (step.Recv n max_bytes max_fds) = recv_row w p n max_bytes
 step_row w p (step.Peek n max_bytes max_fds) = recv_row w p n max_bytes
 step_row w p (step.Limit n) = on_limit n
+step_row w p (step.Shutdown n how) = at_socket w p n
 
 -- The error with which a process cannot start, but for out of memory.
 abbrev pub spawn_refusal : World → ℕ → Option Errno

@@ -4,6 +4,8 @@ use Rattle.std.specs.Prelude.{◌≡◌, ◌⊎◌, ℕ, ◌+◌, Bool, true, fa
 use Rattle.std.specs.List.{zip}
 use Rattle.std.specs.FinMap as map
 use Rattle.af_base.specs.declared.events.SockType.{SockType}
+use Rattle.af_base.specs.declared.events.Shutdown.{Shutdown}
+use Rattle.af_base.specs.declared.events.Shutdown.TheVariants as how
 use Rattle.af_base.specs.declared.events.State.TheVariants as state
 use Rattle.af_base.specs.declared.errno.Errno.{Errno}
 use Rattle.af_base.specs.declared.errno.Errno.TheVariants.{ENOMEM}
@@ -13,7 +15,7 @@ use Rattle.af_base.specs.declared.events.Reply.{Reply}
 use Rattle.af_base.specs.declared.events.Reply.TheVariants as reply
 use Rattle.af_base.specs.World.{World, Socket, Plain, AsSocket}
 use Rattle.af_base.specs.Places.{table_at}
-use Rattle.af_base.specs.Changes.{dequeued, add_file, add_process, add_user, with_name, connected, install, install_all, listening, push_message, queued, remove_process, set_limit, uninstall, with_queue, with_socket}
+use Rattle.af_base.specs.Changes.{dequeued, add_file, add_process, add_user, with_name, connected, install, install_all, listening, push_message, queued, remove_process, set_limit, shut, uninstall, with_queue, with_socket}
 use Rattle.af_base.specs.Table.{free_numbers, lowest_free}
 use Rattle.af_base.specs.Take.{TakeResult, take_from}
 use Rattle.af_base.specs.Unheld.{Settles}
@@ -48,6 +50,24 @@ with_embryo w c l kind = with_socket
 abbrev pub first_embryo : World → ℕ → ℕ → ℕ
 first_embryo w p n = unwrap_or (slice_get (socket_on w p n).backlog 0) 0
 
+-- Whether shutdown(2) closes the input, and whether it closes the output.
+abbrev pub closes_input : Shutdown → Bool
+closes_input how.Read = true
+closes_input how.Write = false
+closes_input how.Both = true
+
+abbrev pub closes_output : Shutdown → Bool
+closes_output how.Read = false
+closes_output how.Write = true
+closes_output how.Both = true
+
+-- The world where these ends of the socket f are closed, and with them the ends of its peer q, which
+-- is 0 where there is none, that they meet (shutdown(2)).
+abbrev pub with_shut : World → ℕ → ℕ → Shutdown → World
+with_shut w f q how = with_socket
+    (with_socket w f (shut (closes_input how) (closes_output how))) q
+    (shut (closes_output how) (closes_input how))
+
 -- The messages that a receive takes.
 abbrev pub taken_on : World → ℕ → ℕ → ℕ → TakeResult
 taken_on w p n max_bytes = take_from (socket_on w p n).kind (socket_on w p n).queue max_bytes
@@ -63,8 +83,8 @@ abbrev pub spawned : World → ℕ → ℕ → Bool → World
 spawned w uid nofile privileged = add_user (add_process w
     (record { user = uid; limit = nofile; privileged = privileged; table = map.empty })) uid
 
--- The reply of a receive: an empty receive is End, if the peer was freed and nothing is left
--- (recvmsg(2)).
+-- The reply of a receive: an empty receive is End, where nothing is left and the peer was freed or
+-- the input is closed (recvmsg(2)).
 abbrev pub received : World → ℕ → ℕ → ℕ → ℕ → Reply
 received w p n max_bytes max_fds =
     let taken = taken_on w p n max_bytes in
@@ -75,7 +95,7 @@ received w p n max_bytes max_fds =
 
 -- The world after the places were changed, which is then settled, where nothing refuses the step
 -- (open(2), dup(2), dup2(2), close(2), fork(2), _exit(2), socketpair(2), socket(2), bind(2),
--- listen(2), connect(2), accept(2), sendmsg(2), recvmsg(2), setrlimit(2)).
+-- listen(2), connect(2), accept(2), sendmsg(2), recvmsg(2), setrlimit(2), shutdown(2)).
 abbrev pub effect : World → ℕ → Step → World
 effect w p step.Open = install (add_file w Plain) p (free_at w p 0) w.next_ino
 effect w p (step.Dup n) = install w p (free_at w p 0) (ino_on w p n)
@@ -105,6 +125,8 @@ effect w p (step.Recv n max_bytes max_fds) =
 effect w p (step.Peek n max_bytes max_fds) = install_all w p
     (zip (got_at w p n max_bytes max_fds) (taken_on w p n max_bytes).attached)
 effect w p (step.Limit n) = set_limit w p n
+effect w p (step.Shutdown n how) =
+    with_shut w (ino_on w p n) (peer_of (socket_on w p n).state) how
 
 -- The answer, where nothing refuses the step: a peek answers what a receive would (recvmsg(2),
 -- MSG_PEEK).
@@ -125,14 +147,16 @@ answer w p (step.Send n bytes attach) = reply.Sent (length bytes)
 answer w p (step.Recv n max_bytes max_fds) = received w p n max_bytes max_fds
 answer w p (step.Peek n max_bytes max_fds) = received w p n max_bytes max_fds
 answer w p (step.Limit n) = reply.Ok
+answer w p (step.Shutdown n how) = reply.Ok
 
--- Whether the step never needs memory: a close, an exit, a changed limit, and a number put in place
--- of itself (dup2(2): nothing is done; this project's profile).
+-- Whether the step never needs memory: a close, an exit, a changed limit, a shutdown, and a number
+-- put in place of itself (dup2(2): nothing is done; this project's profile).
 abbrev pub needs_no_memory : Step → Bool
 needs_no_memory (step.Dup2 n m) = nat_eq m n
 needs_no_memory (step.Close n) = true
 needs_no_memory step.Exit = true
 needs_no_memory (step.Limit n) = true
+needs_no_memory (step.Shutdown n how) = true
 needs_no_memory s = false
 
 -- The outcome of a step: refused by an error and nothing changed; or answered, and the changed

@@ -7,6 +7,7 @@ use Rattle.std.specs.FinMap as map
 use Rattle.std.specs.FinMap.{FinMap}
 use Rattle.af_base.specs.declared.events.SockType.{SockType}
 use Rattle.af_base.specs.declared.events.State.{State}
+use Rattle.af_base.specs.declared.events.Ends.{Ends}
 
 -- A finite map from numbers.
 abbrev pub Map : Type 0 → Type 0
@@ -19,12 +20,18 @@ pub record Message : Type 0 where
   pub attached : List ℕ
   pub user : ℕ
 
--- A socket (unix(7)): its type, its connection state, its abstract name if it has one, the messages
--- that it can receive, and the embryos that wait to be accepted.
+-- Both ends are open.
+abbrev pub open_ends : Ends
+open_ends = record { no_input = false; no_output = false }
+
+-- A socket (unix(7)): its type, its connection state, its abstract name if it has one, which of its
+-- ends are closed (shutdown(2)), the messages that it can receive, and the embryos that wait to be
+-- accepted.
 pub record Socket : Type 0 where
   pub kind : SockType
   pub state : State
   pub name : Option (List ℕ)
+  pub ends : Ends
   pub queue : List Message
   pub backlog : List ℕ
 

@@ -1,5 +1,8 @@
 //! Events and their replies.
 ghost use Rattle.std.specs.Prelude.{◌≡◌};
+ghost use Rattle.af_base.specs.Changes.{closed};
+ghost use Rattle.af_base.specs.Steps.{closes_input, closes_output};
+ghost use Rattle.af_base.specs.World.{open_ends};
 
 use crate::errno::Errno;
 use crate::ids::{Fd, Ino, Pid, Uid};
@@ -26,6 +29,62 @@ pub enum State {
     Connected(Ino),
     /// Was connected; the peer was freed.
     HungUp,
+}
+
+/// Which ends of a socket shutdown(2) has closed: at first none, and an end is never opened again.
+#[derive(Clone, Copy, Debug, PartialEq, Eq)]
+pub struct Ends {
+    /// The input: nothing more can be sent here.
+    pub no_input: bool,
+    /// The output: nothing more can be sent from here.
+    pub no_output: bool,
+}
+
+impl Ends {
+    /// Returns those of a new socket: both are open.
+    pub fn open() -> Ends
+        ensures { result ≡ open_ends }
+    {
+        Ends {
+            no_input: false,
+            no_output: false,
+        }
+    }
+
+    /// Closes the input if `input` says so, and the output if `output` does.
+    pub fn close(&mut self, input: bool, output: bool)
+        ensures { self.new ≡ closed input output self.old }
+    {
+        self.no_input |= input;
+        self.no_output |= output;
+    }
+}
+
+/// The ends of a socket that shutdown(2) closes.
+#[derive(Clone, Copy, Debug, PartialEq, Eq)]
+pub enum Shutdown {
+    /// SHUT_RD: the input.
+    Read,
+    /// SHUT_WR: the output.
+    Write,
+    /// SHUT_RDWR: the input and the output.
+    Both,
+}
+
+impl Shutdown {
+    /// Returns whether the input is closed.
+    pub fn closes_input(self) -> bool
+        ensures { result ≡ closes_input self }
+    {
+        matches!(self, Shutdown::Read | Shutdown::Both)
+    }
+
+    /// Returns whether the output is closed.
+    pub fn closes_output(self) -> bool
+        ensures { result ≡ closes_output self }
+    {
+        matches!(self, Shutdown::Write | Shutdown::Both)
+    }
 }
 
 /// A step of a process.
@@ -85,6 +144,12 @@ pub enum Step {
     /// setrlimit(2) of the limit on descriptors (RLIMIT_NOFILE): from now on it is this. There is
     /// no hard limit, and what is open stays open.
     Limit(u32),
+    /// shutdown(2): the input or output of a socket is closed, or both, and so is its peer's output
+    /// or input.
+    Shutdown {
+        on: Fd,
+        how: Shutdown,
+    },
 }
 
 /// An event.
