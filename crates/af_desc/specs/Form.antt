@@ -21,13 +21,14 @@ state_of HungUp = state.HungUp
 -- The socket that a form shows, with an empty queue. No clause speaks of that of a plain file.
 abbrev pub shown : Form → Socket
 shown form.Plain = idle_socket Stream
-shown (form.Idle kind) = idle_socket kind
-shown (form.Connected kind peer) = connected_socket kind peer
-shown (form.HungUp kind) = record (idle_socket kind) { state = state.HungUp }
-shown (form.Named kind b) = record {
+shown (form.Idle kind ends) = record (idle_socket kind) { ends = ends }
+shown (form.Connected kind ends peer) = record (connected_socket kind peer) { ends = ends }
+shown (form.HungUp kind ends) = record (idle_socket kind) { state = state.HungUp; ends = ends }
+shown (form.Named kind ends b) = record {
   kind = kind;
   state = state_of b.value.link;
   name = Some b.value.name;
+  ends = ends;
   queue = [];
   backlog = b.value.backlog.waiting;
 }
@@ -35,10 +36,10 @@ shown (form.Named kind b) = record {
 -- The socket that a file is, with an empty queue; of a plain file none.
 abbrev pub kind_of : Form → Option Socket
 kind_of form.Plain = None
-kind_of (form.Idle kind) = Some (shown (form.Idle kind))
-kind_of (form.Connected kind peer) = Some (shown (form.Connected kind peer))
-kind_of (form.HungUp kind) = Some (shown (form.HungUp kind))
-kind_of (form.Named kind b) = Some (shown (form.Named kind b))
+kind_of (form.Idle kind ends) = Some (shown (form.Idle kind ends))
+kind_of (form.Connected kind ends peer) = Some (shown (form.Connected kind ends peer))
+kind_of (form.HungUp kind ends) = Some (shown (form.HungUp kind ends))
+kind_of (form.Named kind ends b) = Some (shown (form.Named kind ends b))
 
 -- The embryos that wait to be accepted; of a plain file none.
 abbrev pub embryos_of : Option Socket → List ℕ
@@ -47,7 +48,7 @@ embryos_of o = option_map_or (λ s. s.backlog) o []
 -- How many embryos there is room for.
 abbrev pub most_of : Form → ℕ
 most_of form.Plain = 0
-most_of (form.Idle kind) = 0
-most_of (form.Connected kind peer) = 0
-most_of (form.HungUp kind) = 0
-most_of (form.Named kind b) = b.value.backlog.most
+most_of (form.Idle kind ends) = 0
+most_of (form.Connected kind ends peer) = 0
+most_of (form.HungUp kind ends) = 0
+most_of (form.Named kind ends b) = b.value.backlog.most

@@ -3,7 +3,7 @@ ghost use Rattle.std.specs.Prelude.{◌≡◌, ℕ, ◌+◌, ◌≤◌, ◌<◌,
 ghost use Rattle.std.specs.Prelude.{IsOk, IfSome, IfNone, IfErr, IfOk, OnOk, OnErr, drop, is_none};
 ghost use Rattle.std.specs.Prelude.{if◌then◌else◌, is_some, length, nat_eq, option_copied, Some};
 ghost use Rattle.std.specs.FinMap as map;
-ghost use Rattle.af_base.specs.Changes.{connected, dequeued, listening, pushed, queued, with_name};
+ghost use Rattle.af_base.specs.Changes.{connected, dequeued, listening, pushed, queued, shut, with_name};
 ghost use Rattle.af_base.specs.Places.{backlog_in, held_in, queue_in};
 ghost use Rattle.af_base.specs.Refusals.{room_of};
 ghost use Rattle.af_base.specs.Told.{AreChanged, AreReleased, AreSocketsOnce};
@@ -264,6 +264,19 @@ impl FileTable {
             return;
         };
         row.kind.connect(peer);
+        self.told.add_changed(row, file);
+    }
+
+    /// Closes the input of a socket if `input` says so, and its output if `output` does
+    /// (shutdown(2)).
+    #[tactic(auto, using(crate::proofs::FileTableView::rows, ordered_slab::proofs::Parts::parts))]
+    pub fn shut(&mut self, file: &FileRef, input: bool, output: bool)
+        ensures { self.new ≡ with_socket self.old file.now (shut input output) }
+    {
+        let Some(row) = self.rows.get_mut(file) else {
+            return;
+        };
+        row.kind.shut(input, output);
         self.told.add_changed(row, file);
     }
 

@@ -6,7 +6,7 @@ ghost use Rattle.std.specs.FinMap as map;
 ghost use Rattle.af_base.specs.World as world;
 ghost use Rattle.af_base.specs.Places.{backlog_in, queue_in};
 ghost use Rattle.af_base.specs.Names.{named};
-ghost use Rattle.af_base.specs.Changes.{connected, dequeued, listening, pushed, queued, with_name};
+ghost use Rattle.af_base.specs.Changes.{connected, dequeued, listening, pushed, queued, shut, with_name};
 ghost use Rattle.af_base.specs.Refusals.{room_of};
 ghost use Rattle.af_base.specs.Steps.{connected_socket, idle_socket};
 ghost use Rattle.af_base.specs.Told.{AreChanged, AreReleased, AreSocketsOnce};
@@ -399,6 +399,14 @@ impl Files {
         ensures { self.new ≡ changed (connected peer.now) file.now self.old }
     {
         self.rows.connect(file, peer);
+    }
+
+    /// Closes the input of a socket if `input` says so, and its output if `output` does
+    /// (shutdown(2)). Ignores a plain or unknown file. Takes no memory.
+    pub fn shut(&mut self, file: &FileRef, input: bool, output: bool)
+        ensures { self.new ≡ changed (shut input output) file.now self.old }
+    {
+        self.rows.shut(file, input, output);
     }
 
     /// Gives a nameless socket this name, which is free (bind(2)). Ignores a plain or unknown file.

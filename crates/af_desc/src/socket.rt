@@ -3,14 +3,14 @@ ghost use Rattle.std.specs.Prelude.{◌≡◌, ℕ, ◌∷◌, [], ◌<◌, OnOk
 ghost use Rattle.std.specs.Prelude.{Some, true, drop, is_none, is_some, length, option_copied};
 ghost use Rattle.std.specs.Prelude.{option_map};
 ghost use Rattle.std.specs.Option.{option_and_then, option_map_or};
-ghost use Rattle.af_base.specs.Changes.{connected, dequeued, listening, queued, with_name};
+ghost use Rattle.af_base.specs.Changes.{connected, dequeued, listening, queued, shut, with_name};
 ghost use Rattle.af_base.specs.Refusals.{room_of};
 ghost use Rattle.af_base.specs.Steps.{connected_socket, idle_socket};
 ghost use Rattle.af_desc.specs.FilesView.{hung_up};
 ghost use Rattle.af_desc.specs.Form.{embryos_of, shown, state_of};
 ghost use Rattle.af_desc.specs.FileTableView.{refilled};
 
-use af_base::events::{SockType, State};
+use af_base::events::{Ends, SockType, State};
 use af_base::ids::FileRef;
 use af_base::items::Bytes;
 use af_listen::Backlog;
@@ -25,20 +25,20 @@ pub struct FileKind {
     form: Form,
 }
 
-/// A plain file, or the form of a socket with its type. Most sockets have no name, and take no
-/// memory of their own.
+/// A plain file, or the form of a socket, with its type and with what shutdown(2) has closed. Most
+/// sockets have no name, and take no memory of their own.
 #[derive(Drop)]
 enum Form {
     /// Is no socket.
     Plain,
     /// Has no name, and was never connected.
-    Idle(SockType),
+    Idle(SockType, Ends),
     /// Has no name, and is connected to a live peer.
-    Connected(SockType, FileRef),
+    Connected(SockType, Ends, FileRef),
     /// Has no name, and was connected; the peer was freed.
-    HungUp(SockType),
+    HungUp(SockType, Ends),
     /// Has a name.
-    Named(SockType, Box<NamedSocket>),
+    Named(SockType, Ends, Box<NamedSocket>),
 }
 
 /// A socket with a name, and the embryos that wait there: none, until it listens.
@@ -89,7 +89,7 @@ impl FileKind {
         ensures { result ≡ Some (idle_socket kind) }
     {
         FileKind {
-            form: Form::Idle(kind),
+            form: Form::Idle(kind, Ends::open()),
         }
     }
 
@@ -98,7 +98,7 @@ impl FileKind {
         ensures { result ≡ Some (connected_socket kind peer.now) }
     {
         FileKind {
-            form: Form::Connected(kind, peer.duplicate()),
+            form: Form::Connected(kind, Ends::open(), peer.duplicate()),
         }
     }
 
@@ -109,10 +109,10 @@ impl FileKind {
         // Each form says it.
         match &self.form {
             Form::Plain
-            | Form::Idle(_)
-            | Form::Connected(_, _)
-            | Form::HungUp(_)
-            | Form::Named(_, _) => {}
+            | Form::Idle(_, _)
+            | Form::Connected(_, _, _)
+            | Form::HungUp(_, _)
+            | Form::Named(_, _, _) => {}
         }
     }
 
@@ -131,9 +131,10 @@ impl FileKind {
     {
         match &self.form {
             Form::Plain => None,
-            Form::Idle(_) | Form::Connected(_, _) | Form::HungUp(_) | Form::Named(_, _) => {
-                Some(&self.form)
-            }
+            Form::Idle(_, _)
+            | Form::Connected(_, _, _)
+            | Form::HungUp(_, _)
+            | Form::Named(_, _, _) => Some(&self.form),
         }
     }
 
@@ -180,7 +181,7 @@ impl FileKind {
             name,
             backlog: Backlog::none(alloc),
         };
-        self.form = Form::Named(form.kind(), Box::new(alloc, socket)?);
+        self.form = Form::Named(form.kind(), form.ends(), Box::new(alloc, socket)?);
         Ok(())
     }
 
@@ -193,7 +194,7 @@ impl FileKind {
         ensures err { OnErr result (self.new ≡ self.old) }
     {
         let backlog = Backlog::new(alloc, most)?;
-        if let Form::Named(_, socket) = &mut self.form {
+        if let Form::Named(_, _, socket) = &mut self.form {
             socket.backlog = backlog;
             socket.link = Link::Listening(most);
         }
@@ -206,8 +207,11 @@ impl FileKind {
     {
         match &mut self.form {
             Form::Plain => {}
-            Form::Named(_, socket) => socket.link = Link::Connected(peer.duplicate()),
-            _ => self.form = Form::Connected(self.form.kind(), peer.duplicate()),
+            Form::Named(_, _, socket) => socket.link = Link::Connected(peer.duplicate()),
+            _ => {
+                let form = &self.form;
+                self.form = Form::Connected(form.kind(), form.ends(), peer.duplicate());
+            }
         }
     }
 
@@ -216,7 +220,7 @@ impl FileKind {
         requires { IfSome self.old (λ s. length s.backlog < room_of s.state) }
         ensures { self.new ≡ option_map (queued embryo) self.old }
     {
-        if let Form::Named(_, socket) = &mut self.form {
+        if let Form::Named(_, _, socket) = &mut self.form {
             socket.backlog.enqueue(embryo);
         }
     }
@@ -229,8 +233,22 @@ impl FileKind {
         ensures rest { self.new ≡ option_map dequeued self.old }
     {
         match &mut self.form {
-            Form::Named(_, socket) => socket.backlog.dequeue(),
+            Form::Named(_, _, socket) => socket.backlog.dequeue(),
             _ => None,
+        }
+    }
+
+    /// Closes the input of a socket if `input` says so, and its output if `output` does
+    /// (shutdown(2)). Takes no memory.
+    pub fn shut(&mut self, input: bool, output: bool)
+        ensures { self.new ≡ option_map (shut input output) self.old }
+    {
+        match &mut self.form {
+            Form::Plain => {}
+            Form::Idle(_, ends) => ends.close(input, output),
+            Form::Connected(_, ends, _) => ends.close(input, output),
+            Form::HungUp(_, ends) => ends.close(input, output),
+            Form::Named(_, ends, _) => ends.close(input, output),
         }
     }
 
@@ -240,8 +258,8 @@ impl FileKind {
     {
         match &mut self.form {
             Form::Plain => {}
-            Form::Named(_, socket) => socket.link = Link::HungUp,
-            _ => self.form = Form::HungUp(self.form.kind()),
+            Form::Named(_, _, socket) => socket.link = Link::HungUp,
+            _ => self.form = Form::HungUp(self.form.kind(), self.form.ends()),
         }
     }
 }
@@ -254,10 +272,24 @@ impl Form {
     {
         match self {
             Form::Plain => SockType::Stream,
-            Form::Idle(kind)
-            | Form::Connected(kind, _)
-            | Form::HungUp(kind)
-            | Form::Named(kind, _) => *kind,
+            Form::Idle(kind, _)
+            | Form::Connected(kind, _, _)
+            | Form::HungUp(kind, _)
+            | Form::Named(kind, _, _) => *kind,
+        }
+    }
+
+    /// Returns what shutdown(2) has closed.
+    #[inline(always)]
+    fn ends(&self) -> Ends
+        ensures { result ≡ (shown self.now).ends }
+    {
+        match self {
+            Form::Plain => Ends::open(),
+            Form::Idle(_, ends)
+            | Form::Connected(_, ends, _)
+            | Form::HungUp(_, ends)
+            | Form::Named(_, ends, _) => *ends,
         }
     }
 
@@ -267,10 +299,10 @@ impl Form {
         ensures { result ≡ (shown self.now).state }
     {
         match self {
-            Form::Plain | Form::Idle(_) => State::Idle,
-            Form::Connected(_, peer) => State::Connected(peer.ino()),
-            Form::HungUp(_) => State::HungUp,
-            Form::Named(_, socket) => socket.link.state(),
+            Form::Plain | Form::Idle(_, _) => State::Idle,
+            Form::Connected(_, _, peer) => State::Connected(peer.ino()),
+            Form::HungUp(_, _) => State::HungUp,
+            Form::Named(_, _, socket) => socket.link.state(),
         }
     }
 
@@ -279,10 +311,10 @@ impl Form {
         ensures { state_of result ≡ (shown self.now).state }
     {
         match self {
-            Form::Plain | Form::Idle(_) => Link::Idle,
-            Form::Connected(_, peer) => Link::Connected(peer.duplicate()),
-            Form::HungUp(_) => Link::HungUp,
-            Form::Named(_, socket) => socket.link.duplicate(),
+            Form::Plain | Form::Idle(_, _) => Link::Idle,
+            Form::Connected(_, _, peer) => Link::Connected(peer.duplicate()),
+            Form::HungUp(_, _) => Link::HungUp,
+            Form::Named(_, _, socket) => socket.link.duplicate(),
         }
     }
 
@@ -294,9 +326,9 @@ impl Form {
             ((peer : ℕ) → ¬ ((shown self.now).state ≡ State.Connected peer)) }
     {
         match self {
-            Form::Connected(_, peer) => Some(peer.duplicate()),
-            Form::Plain | Form::Idle(_) | Form::HungUp(_) => None,
-            Form::Named(_, socket) => socket.link.peer(),
+            Form::Connected(_, _, peer) => Some(peer.duplicate()),
+            Form::Plain | Form::Idle(_, _) | Form::HungUp(_, _) => None,
+            Form::Named(_, _, socket) => socket.link.peer(),
         }
     }
 
@@ -308,8 +340,8 @@ impl Form {
             ≡ (shown self.now).backlog }
     {
         match self {
-            Form::Named(_, socket) => Some(socket),
-            Form::Plain | Form::Idle(_) | Form::Connected(_, _) | Form::HungUp(_) => None,
+            Form::Named(_, _, socket) => Some(socket),
+            Form::Plain | Form::Idle(_, _) | Form::Connected(_, _, _) | Form::HungUp(_, _) => None,
         }
     }
 }
@@ -395,6 +427,14 @@ impl<'a> Socket<'a> {
         self.form.peer()
     }
 
+    /// Returns what shutdown(2) has closed.
+    #[inline(always)]
+    pub fn ends(&self) -> Ends
+        ensures { result ≡ self.now.ends }
+    {
+        self.form.ends()
+    }
+
     /// Returns the queue.
     #[inline(always)]
     pub fn queue(&self) -> &Queue<'a>
@@ -418,7 +458,7 @@ impl<'a> Socket<'a> {
         ensures name { result ≡ is_none self.now.name }
         ensures backlog { result ≡ true → self.now.backlog ≡ [] }
     {
-        !matches!(self.form, Form::Named(_, _))
+        !matches!(self.form, Form::Named(_, _, _))
     }
 
     /// Returns the backlog, if the socket has a name; without one it has none.
