@@ -1,5 +1,5 @@
 -- A socket that is made, named, listens, is connected, accepted or sent to: the store stays exact.
-use Rattle.std.proofs.Common.{◌≡◌, ◌<◌, ◌≤◌, ◌+◌, ℕ, false, [], length, refl, sym, ap, ◌∙◌, subst, true, List, arith, cond, nat_eq, ◌∷◌, drop}
+use Rattle.std.proofs.Common.{◌≡◌, ◌<◌, ◌≤◌, ◌+◌, ℕ, Bool, false, [], length, refl, sym, ap, ◌∙◌, subst, true, List, arith, cond, nat_eq, ◌∷◌, drop}
 use Rattle.std.specs.Prelude.{Option, Some, None, IsTrue, is_none, unwrap_or, IfSome}
 use Rattle.std.specs.FinMap as map
 use Rattle.std.specs.List.{Contains, sum_by}
@@ -8,7 +8,7 @@ use Rattle.std.proofs.lemmas.Bool.{false≢true}
 use Rattle.std.proofs.lemmas.List.{nil_from_length}
 use Rattle.af_base.specs.declared.limits.TheConstants.{MAX_INFLIGHT, MAX_MESSAGES, MAX_BACKLOG}
 use Rattle.af_base.specs.World.{AsSocket, File, IsLive, Message, Plain, World, Socket}
-use Rattle.af_base.specs.Changes.{push_message, add_file, file_with, listening, with_name, with_socket, connected, queued, dequeued, install}
+use Rattle.af_base.specs.Changes.{push_message, add_file, file_with, listening, shut, with_name, with_socket, connected, queued, dequeued, install}
 use Rattle.af_base.specs.Counts.{total, charge, count_in, total_of, waiting}
 use Rattle.af_base.specs.Places.{queue_at, queue_of, attached_in, backlog_at}
 use Rattle.af_base.specs.Refusals.{no_socket, socket_at, socket_of, is_full, room_of}
@@ -17,7 +17,7 @@ use Rattle.af_base.specs.declared.events.SockType.{SockType}
 use Rattle.af_base.specs.declared.events.State.TheVariants as state
 use Rattle.af_base.specs.Names.{is_name, named}
 use Rattle.af_base.specs.Steps.{idle_socket, connected_socket}
-use Rattle.af_base.proofs.Connections.{whole-bound, whole-listening, within-bound, within-listening, whole-made, whole-queued, within-made, within-queued, live-embryo}
+use Rattle.af_base.proofs.Connections.{whole-bound, whole-listening, whole-shut, within-bound, within-listening, within-shut, whole-made, whole-queued, within-made, within-queued, live-embryo}
 use Rattle.af_base.proofs.Embryos.{waiting-changed, waiting-queued}
 use Rattle.af_base.proofs.PlaceMoves.{live-changed, total-changed}
 use Rattle.af_base.proofs.SocketNames.{named-none}
@@ -130,6 +130,10 @@ pub exact-listening : (w : World) (s b : ℕ) (k : Tally) → IfSome (socket_at 
 exact-listening w s b k idle some few h = exact-altered w s (listening b) (λ x. refl) (λ x. refl) k (λ x at.
     let alone = if-there (λ y. y.state ≡ state.Idle) w s x at idle in
     (whole-listening w s b x at alone h.whole, within-listening w s b x h.within at alone some few)) h
+
+-- A socket whose ends are closed.
+pub exact-shut : (w : World) (s : ℕ) (input output : Bool) (k : Tally) → IsExact w k → IsExact (with_socket w s (shut input output)) k
+exact-shut w s input output k h = exact-altered w s (shut input output) (λ x. refl) (λ x. refl) k (λ x at. (whole-shut w s input output h.whole, within-shut w s input output h.within)) h
 
 -- Nobody waits at a socket that was never connected.
 pub idle-alone : (w : World) (s : ℕ) → IsWithin w → IfSome (socket_at w s) (λ x. x.state ≡ state.Idle) → IfSome (socket_at w s) (λ x. x.backlog ≡ [])

@@ -7,8 +7,8 @@ ghost use Rattle.af_base.specs.World as world;
 ghost use Rattle.af_base.specs.Names.{is_name, named};
 ghost use Rattle.af_base.specs.Counts.{waiting};
 ghost use Rattle.af_base.specs.Places.{backlog_at, table_at};
-ghost use Rattle.af_base.specs.Changes.{add_file, dequeued, install, listening, queued, with_name};
-ghost use Rattle.af_base.specs.Changes.{with_socket};
+ghost use Rattle.af_base.specs.Changes.{add_file, dequeued, install, listening, queued, shut};
+ghost use Rattle.af_base.specs.Changes.{with_name, with_socket};
 ghost use Rattle.af_base.specs.Refusals.{is_full, room_of, socket_at};
 ghost use Rattle.af_base.specs.Steps.{idle_socket, with_embryo};
 ghost use Rattle.af_collect.specs.Limits.{IsBelowLimit};
@@ -97,6 +97,17 @@ impl Store {
     {
         let holdings = &mut self.holdings;
         holdings.files.listen(socket, most)
+    }
+
+    /// Closes the input of a socket if `input` says so, and its output if `output` does
+    /// (shutdown(2)). Takes no memory.
+    pub fn shut(&mut self, socket: &FileRef, input: bool, output: bool)
+        ensures { self.new ≡ record self.old {
+          world = with_socket self.old.world socket.now (shut input output);
+        } }
+    {
+        let holdings = &mut self.holdings;
+        holdings.files.shut(socket, input, output);
     }
 
     /// Makes an embryo: a socket that is connected to `client`, which is idle, and the client to

@@ -7,7 +7,7 @@ ghost use Rattle.af_base.specs.Run as run;
 ghost use Rattle.af_layer.specs.Short.{event_of, is_short, reply_of, turn_reply_of};
 
 use af_base::errno::Errno;
-use af_base::events::{Event, Reply, SockType, Step};
+use af_base::events::{Event, Reply, Shutdown, SockType, Step};
 use af_base::ids::{Fd, Pid, Uid};
 use af_steps::Engine;
 
@@ -27,6 +27,7 @@ pub enum ShortEvent {
     Listen(Pid, Fd, u32),
     Accept(Pid, Fd),
     Limit(Pid, u32),
+    Shutdown(Shutdown, Pid, Fd),
 }
 
 /// A reply to such an event, in 12 bytes.
@@ -91,6 +92,7 @@ impl ShortEvent {
             Step::Listen { on, backlog } => ShortEvent::Listen(pid, on, backlog),
             Step::Accept(on) => ShortEvent::Accept(pid, on),
             Step::Limit(nofile) => ShortEvent::Limit(pid, nofile),
+            Step::Shutdown { on, how } => ShortEvent::Shutdown(how, pid, on),
             other => return Err(other),
         })
     }
@@ -115,6 +117,7 @@ impl ShortEvent {
             ShortEvent::Listen(pid, on, backlog) => short_reply(engine.listen(pid, on, backlog)),
             ShortEvent::Accept(pid, on) => short_reply(engine.accept(pid, on)),
             ShortEvent::Limit(pid, nofile) => short_reply(engine.limit(pid, nofile)),
+            ShortEvent::Shutdown(how, pid, on) => short_reply(engine.shutdown(pid, on, how)),
         }
     }
 
@@ -139,6 +142,7 @@ impl ShortEvent {
             ShortEvent::Listen(pid, on, backlog) => Event::Proc(pid, Step::Listen { on, backlog }),
             ShortEvent::Accept(pid, on) => Event::Proc(pid, Step::Accept(on)),
             ShortEvent::Limit(pid, nofile) => Event::Proc(pid, Step::Limit(nofile)),
+            ShortEvent::Shutdown(how, pid, on) => Event::Proc(pid, Step::Shutdown { on, how }),
         }
     }
 }

@@ -6,4 +6,5 @@ pub mod WaitingMessages
 pub mod EmptyReceives
 pub mod Sends
 pub mod Connections
+pub mod SocketEnds
 pub mod SendSync

@@ -4,7 +4,7 @@ use Rattle.std.specs.List.{Contains}
 use Rattle.af_base.specs.declared.limits.TheConstants.{MAX_INFLIGHT, MAX_MESSAGES}
 use Rattle.af_base.specs.Counts.{charged, total}
 use Rattle.af_base.specs.Places.{InTable, queue_at}
-use Rattle.af_base.specs.Refusals.{RefusalRow, on_charge, on_room, socket_at}
+use Rattle.af_base.specs.Refusals.{RefusalRow, is_deaf, on_charge, on_input, on_room, socket_at}
 use Rattle.af_base.specs.Whole.{IsMessageWithin}
 use Rattle.af_base.specs.World.{Message, Process, World}
 use Rattle.af_collect.specs.Limits.{IsOfProcess}
@@ -14,11 +14,15 @@ use Rattle.af_steps.specs.declared.messages.Envelope.{Envelope}
 abbrev pub message_in : Envelope → List ℕ → Message
 message_in e bytes = record { bytes = bytes; attached = e.attached.items; user = e.user }
 
--- Process q must be free to have this many descriptors more in flight, and the queue of socket s
--- must have room: two parts of the row of a send.
+-- The input of socket s must be open, and its queue have room: the last parts of the row of a send.
+abbrev pub target_row : World → ℕ → RefusalRow
+target_row w s = on_input (is_deaf w s) ++ on_room (queue_at w s)
+
+-- Process q must be free to have this many descriptors more in flight, and socket s take a message
+-- more: three parts of the row of a send.
 abbrev pub room_row : World → Process → ℕ → ℕ → RefusalRow
 room_row w q s count = on_charge (charged w q.user) (total w) q.limit q.privileged count
-    ++ on_room (queue_at w s)
+    ++ target_row w s
 
 -- Socket s of this world has room for the message: its queue is not full, tables hold its files,
 -- the user of a process is charged for them, and all limits are kept.

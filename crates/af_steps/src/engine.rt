@@ -144,6 +144,7 @@ impl Engine {
                 max_fds,
             } => self.peek_reply(pid, *on, *max_bytes, *max_fds),
             events::Step::Limit(nofile) => reply_of(self.limit(pid, *nofile)),
+            events::Step::Shutdown { on, how } => reply_of(self.shutdown(pid, *on, *how)),
         }
     }
 

@@ -18,7 +18,7 @@ ghost use Rattle.af_table.specs.Rooms.{IsOpenFrom};
 
 use crate::engine::Engine;
 use crate::lookups::socket_on;
-use crate::ready::has_room;
+use crate::ready::check_target;
 use af_base::errno::Errno;
 use af_base::events::{Reply, State, Step};
 use af_base::ids::{Fd, FileRef, Pid, Uid};
@@ -43,7 +43,8 @@ pub enum Received {
         /// Descriptors of the message were not installed (MSG_CTRUNC).
         ctrunc: bool,
     },
-    /// Nothing is left to receive, and the peer was freed: recvmsg(2) answers 0.
+    /// Nothing is left to receive, and the peer was freed or the input is closed: recvmsg(2)
+    /// answers 0.
     End,
 }
 
@@ -290,6 +291,9 @@ fn peer_of(socket: &Socket) -> Result<FileRef, Errno>
     ensures err { IfErr result (λ e. first_fit (on_peer socket.now) ≡ Some e) }
 {
     if let Some(peer) = socket.peer() {
+        if socket.ends().no_output {
+            return Err(Errno::EPIPE);
+        }
         return Ok(peer);
     }
     match socket.state() {
@@ -299,7 +303,7 @@ fn peer_of(socket: &Socket) -> Result<FileRef, Errno>
 }
 
 /// Returns the user of a process, who is charged for `count` descriptors; or why they may not be in
-/// flight, or the queue of the peer has no room.
+/// flight, or why the peer takes no message.
 #[inline(always)]
 fn check_room(store: &Store, process: &Process, peer: &FileRef, count: usize) -> Result<Uid, Errno>
     ensures user { IfOk result (λ user. user ≡ process.now.process.user) }
@@ -310,15 +314,13 @@ fn check_room(store: &Store, process: &Process, peer: &FileRef, count: usize) ->
 {
     let (user, limit, privileged) = process.who();
     store.holdings().may_send(user, limit, privileged, count)?;
-    if !has_room(store, peer) {
-        return Err(Errno::EAGAIN);
-    }
+    check_target(store, peer)?;
     Ok(user)
 }
 
 /// Returns the socket that a receive or a peek takes from, fills an empty list with the free
 /// descriptors at which it installs files, and reserves room for these; `None` where nothing is
-/// left to receive, and the peer was freed. The refusals are those of `recv`. No process can see a
+/// left to receive, and nothing can come. The refusals are those of `recv`. No process can see a
 /// change, also on an error.
 #[inline(always)]
 fn prepare_receive(
@@ -434,7 +436,9 @@ pub(crate) fn check_receive(socket: &Socket, max_bytes: u32) -> Result<(), Errno
     }
     match socket.state() {
         State::Idle | State::Listening(_) => Err(Errno::ENOTCONN),
-        State::Connected(_) if socket.queue().len() == 0 => Err(Errno::EAGAIN),
+        State::Connected(_) if socket.queue().len() == 0 && !socket.ends().no_input => {
+            Err(Errno::EAGAIN)
+        }
         State::Connected(_) | State::HungUp => Ok(()),
     }
 }

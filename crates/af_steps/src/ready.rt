@@ -1,11 +1,12 @@
 //! The readiness of files (poll(2)).
-ghost use Rattle.std.specs.Prelude.{◌≡◌, ◌++◌, Some, IfErr, IfOk, length, nat_lt};
+ghost use Rattle.std.specs.Prelude.{◌≡◌, ◌++◌, None, OnOk, Some, IfErr, IfOk};
 ghost use Rattle.std.specs.FinMap as map;
 ghost use Rattle.af_base.specs.Places.{queue_at, table_at};
-ghost use Rattle.af_base.specs.Ready.{reads, ready, writes};
-ghost use Rattle.af_base.specs.Refusals.{first_fit, ino_on, is_hung_up, on_number, on_process};
+ghost use Rattle.af_base.specs.Ready.{is_cut_off, reads, ready, writes};
+ghost use Rattle.af_base.specs.Refusals.{first_fit, ino_on, is_deaf, on_number, on_process};
 ghost use Rattle.af_base.specs.Refusals.{peer_of};
 ghost use Rattle.af_base.specs.World.{IsLive};
+ghost use Rattle.af_steps.specs.MessageRoom.{target_row};
 
 use crate::engine::Engine;
 use crate::lookups::file_on;
@@ -49,7 +50,7 @@ impl Engine {
         Ready {
             readable: is_readable(&socket),
             writable: is_writable(&self.store, &socket),
-            hung_up: is_hung_up(&socket),
+            hung_up: is_cut_off(&socket),
         }
     }
 }
@@ -61,30 +62,39 @@ fn is_readable(socket: &Socket) -> bool
     check_receive(socket, 1).is_ok() || check_accept(socket).is_ok()
 }
 
-/// Returns whether the socket has a peer, and room there.
+/// Returns whether the socket's output is open, and it has a peer that takes a message.
 fn is_writable(store: &Store, socket: &Socket) -> bool
-    ensures { result ≡ writes socket.now (queue_at store.now.world (peer_of socket.now.state)) }
+    ensures { result ≡ writes socket.now (is_deaf store.now.world (peer_of socket.now.state))
+        (queue_at store.now.world (peer_of socket.now.state)) }
 {
     match socket.peer() {
-        Some(peer) => has_room(store, &peer),
+        Some(peer) => !socket.ends().no_output && check_target(store, &peer).is_ok(),
         None => false,
     }
 }
 
-/// Returns whether the queue of a file has room for one message more.
+/// Returns whether a socket takes one message more, or why not.
 #[inline(always)]
-pub(crate) fn has_room(store: &Store, file: &FileRef) -> bool
-    ensures { result ≡ nat_lt (length (queue_at store.now.world file.now)) MAX_MESSAGES }
+pub(crate) fn check_target(store: &Store, file: &FileRef) -> Result<(), Errno>
+    ensures ok { OnOk result (first_fit (target_row store.now.world file.now) ≡ None) }
+    ensures err { IfErr result (λ e. first_fit (target_row store.now.world file.now) ≡ Some e) }
 {
-    match store.holdings().socket(file) {
-        Some(socket) => socket.queue().len() < MAX_MESSAGES,
-        None => true,
+    let Some(socket) = store.holdings().socket(file) else {
+        return Ok(());
+    };
+    if socket.ends().no_input {
+        return Err(Errno::EPIPE);
     }
+    if socket.queue().len() >= MAX_MESSAGES {
+        return Err(Errno::EAGAIN);
+    }
+    Ok(())
 }
 
-/// Returns whether the peer of the socket was freed.
-fn is_hung_up(socket: &Socket) -> bool
-    ensures { result ≡ is_hung_up socket.now.state }
+/// Returns whether the peer of the socket was freed, or both its ends are closed.
+fn is_cut_off(socket: &Socket) -> bool
+    ensures { result ≡ is_cut_off socket.now }
 {
-    matches!(socket.state(), State::HungUp)
+    let ends = socket.ends();
+    matches!(socket.state(), State::HungUp) || (ends.no_input && ends.no_output)
 }

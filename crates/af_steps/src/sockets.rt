@@ -11,7 +11,7 @@ ghost use Rattle.af_steps.specs.Rooms.{CannotFail};
 use crate::engine::Engine;
 use crate::lookups::{descriptor_for_file, descriptors_for_pair, make_room_at, socket_on};
 use af_base::errno::Errno;
-use af_base::events::{Reply, SockType, State, Step};
+use af_base::events::{Reply, Shutdown, SockType, State, Step};
 use af_base::ids::{Fd, FileRef, Pid};
 use af_base::limits::{MAX_BACKLOG, MAX_NAME};
 use af_collect::Store;
@@ -87,6 +87,25 @@ impl Engine {
     {
         let (client, listener, kind) = find_listener(&self.store, pid, on, name)?;
         self.store.make_embryo(kind, &client, &listener)?;
+        self.store.release();
+        Ok(())
+    }
+
+    /// Closes the input of a socket, its output, or both, and with them the output or input of its
+    /// peer (shutdown(2)). What waits in a queue can still be received. An end that is closed is
+    /// never opened again. Needs no memory. Refused, in this order: ESRCH, EBADF, ENOTSOCK.
+    pub fn shutdown(&mut self, pid: Pid, on: Fd, how: Shutdown) -> Result<(), Errno>
+        ensures done { OnOk result (Does self.old pid (Step.Shutdown on how) Reply.Ok self.new) }
+        ensures refused { IfErr result (λ e.
+            Refuses self.old pid (Step.Shutdown on how) e self.new) }
+    {
+        let (_, file, socket) = socket_on(&self.store, pid, on)?;
+        let peer = socket.peer();
+        let (input, output) = (how.closes_input(), how.closes_output());
+        self.store.shut(&file, input, output);
+        if let Some(peer) = peer {
+            self.store.shut(&peer, output, input);
+        }
         self.store.release();
         Ok(())
     }
@@ -183,6 +202,9 @@ fn check_listener(socket: &Socket, kind: SockType) -> Result<(), Errno>
     let State::Listening(most) = socket.state() else {
         return Err(Errno::ECONNREFUSED);
     };
+    if socket.ends().no_input {
+        return Err(Errno::ECONNREFUSED);
+    }
     if socket.kind() != kind {
         return Err(Errno::EPROTOTYPE);
     }

@@ -1,19 +1,19 @@
 //! The views of an engine. None takes memory, but for `listing`.
 ghost use Rattle.std.specs.Prelude.{◌≡◌, ◌<◌, ◌≤◌, ℕ, None, Some, false, IfErr, IfOk, IfSome};
-ghost use Rattle.std.specs.Prelude.{IfNone, OnOk, length, option_copied, slice_get};
+ghost use Rattle.std.specs.Prelude.{IfNone, OnOk, length, option_copied, option_map, slice_get};
 ghost use Rattle.std.specs.FinMap as map;
 ghost use Rattle.af_base.specs.World.{is_live, IsLive};
 ghost use Rattle.af_base.specs.Bare.{bare};
 ghost use Rattle.af_base.specs.Counts.{refs, inflight, charged, total};
 ghost use Rattle.af_base.specs.Places.{table_at};
-ghost use Rattle.af_base.specs.Refusals.{refusal};
+ghost use Rattle.af_base.specs.Refusals.{refusal, socket_at};
 ghost use Rattle.af_base.specs.Whole.{name_at};
 ghost use Rattle.af_steps.specs.FileInfo.{shown_of};
 
 use crate::engine::Engine;
 use crate::lookups::descriptor_for_file;
 use af_base::errno::Errno;
-use af_base::events::{SockType, State, Step};
+use af_base::events::{Ends, SockType, State, Step};
 use af_base::ids::{Fd, FileRef, Ino, Pid, Uid};
 use af_base::listing::Listing;
 use std::alloc::AllocError;
@@ -200,6 +200,16 @@ impl Engine {
             messages: socket.queue().len(),
             embryos: socket.embryos(),
         }
+    }
+
+    /// Returns which ends of the socket shutdown(2) has closed; `None` where the file is no socket,
+    /// or unknown.
+    pub fn ends(&self, ino: Ino) -> Option<Ends>
+        ensures { result ≡ option_map (λ s. s.ends) (socket_at self.now.world ino) }
+    {
+        let files = self.store.holdings().files();
+        let file = files.find(ino)?;
+        Some(files.socket(&file)?.ends())
     }
 
     /// Returns the abstract name of the socket (unix(7)), if it is one and has one.

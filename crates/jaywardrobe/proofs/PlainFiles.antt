@@ -6,11 +6,11 @@ use Rattle.std.specs.Ordering.{nat_cmp, eq_by_cmp}
 use Rattle.std.specs.FinMap as map
 use Rattle.af_base.specs.declared.events.Step.{Step}
 use Rattle.af_base.specs.declared.events.Step.TheVariants as step
-use Rattle.af_base.specs.Changes.{add_file, add_process, connected, dequeued, file_with, install, install_all, listening, pushed, queued, with_name, with_queue, with_socket}
+use Rattle.af_base.specs.Changes.{add_file, add_process, connected, dequeued, file_with, install, install_all, listening, pushed, queued, shut, with_name, with_queue, with_socket}
 use Rattle.af_base.specs.Pass.{Purges, emptied, empty_file}
 use Rattle.af_base.specs.Reached.{is_socket}
 use Rattle.af_base.specs.Refusals.{ino_named, ino_on, peer_of, socket_named, socket_on}
-use Rattle.af_base.specs.Steps.{connected_socket, effect, got_at, idle_socket, spawned, taken_on, with_pair}
+use Rattle.af_base.specs.Steps.{closes_input, closes_output, connected_socket, effect, got_at, idle_socket, spawned, taken_on, with_pair}
 use Rattle.af_base.specs.Unheld.{Settles, file_without}
 use Rattle.af_base.specs.World.{AsSocket, File, Plain, Socket, World}
 use Rattle.af_base.proofs.Lookups.{insert-here, insert-other, same_or_not}
@@ -123,6 +123,10 @@ grows-effect w p (step.Recv n max_bytes max_fds) e =
     grows-join w one (effect w p (step.Recv n max_bytes max_fds)) (grows-socket w (ino_on w p n) (λ x. record x { queue = taken.rest })) (grows-all one p (zip (got_at w p n max_bytes max_fds) taken.attached))
 grows-effect w p (step.Peek n max_bytes max_fds) e = grows-all w p (zip (got_at w p n max_bytes max_fds) (taken_on w p n max_bytes).attached)
 grows-effect w p (step.Limit n) e = grows-same w (effect w p (step.Limit n)) refl refl
+grows-effect w p (step.Shutdown n how) e =
+    let own = shut (closes_input how) (closes_output how) in
+    let one = with_socket w (ino_on w p n) own in
+    grows-join w one (effect w p (step.Shutdown n how)) (grows-socket w (ino_on w p n) own) (grows-socket one (peer_of (socket_on w p n).state) (shut (closes_output how) (closes_input how)))
 
 -- A process more is no file, and its user is none.
 grows-spawned : (w : World) (uid nofile : ℕ) (privileged : Bool) → Grows w (spawned w uid nofile privileged)

@@ -4,6 +4,8 @@ use Rattle.af_base.specs.Errno.{number_of}
 use Rattle.af_base.specs.declared.errno.Errno.{Errno}
 use Rattle.af_base.specs.declared.events.Reply.{Reply}
 use Rattle.af_base.specs.declared.events.Reply.TheVariants as reply
+use Rattle.af_base.specs.declared.events.Shutdown.{Shutdown}
+use Rattle.af_base.specs.declared.events.Shutdown.TheVariants as how
 use Rattle.af_base.specs.declared.events.SockType.{SockType}
 use Rattle.af_base.specs.declared.events.SockType.TheVariants.{Seqpacket, Stream}
 
@@ -46,3 +48,8 @@ type_named n = if nat_eq n 1 then Some Stream else (if nat_eq n 2 then Some Seqp
 -- A version as one number: a later version has a larger one (the header's JW_VERSION).
 abbrev pub version_number : ℕ → ℕ → ℕ → ℕ
 version_number major minor patch = major * 1000000 + minor * 1000 + patch
+
+-- What C means by this number of shutdown(2) (sys/socket.h: SHUT_RD, SHUT_WR, SHUT_RDWR).
+abbrev pub how_named : ℕ → Option Shutdown
+how_named n = if nat_eq n 0 then Some how.Read
+    else (if nat_eq n 1 then Some how.Write else (if nat_eq n 2 then Some how.Both else None))

@@ -1,14 +1,14 @@
 //! Sockets: made, named, connected and accepted.
 ghost use Rattle.std.specs.Prelude.{◌≡◌, IfNone, IfSome};
 ghost use Rattle.scm_c.specs.Calls.{DoesEvent, DoesAndWrites, RefusesFirst};
-ghost use Rattle.scm_c.specs.Codes.{type_named};
+ghost use Rattle.scm_c.specs.Codes.{how_named, type_named};
 ghost use Rattle.scm_c.specs.Written.{pair_written};
 
 use crate::answers::{NO_ENGINE, answer, code, refusal};
 use crate::engine::{call_of, reply_to};
 use crate::handle::Handle;
 use af_base::errno::Errno;
-use af_base::events::{Event, Reply, SockType, Step};
+use af_base::events::{Event, Reply, Shutdown, SockType, Step};
 use af_base::ids::{Fd, Pid};
 use std::alloc::Global;
 
@@ -130,6 +130,43 @@ pub extern "C" fn jw_listen(
         backlog,
     };
     call_of(engine, pid, step)
+}
+
+/// Closes an end of a socket, or both (shutdown(2)): its input for JW_SHUT_RD, its output for
+/// JW_SHUT_WR, both for JW_SHUT_RDWR; and with them the peer's output or input. What waits can still
+/// be received. An end is never opened again. Answers 0.
+///
+/// Errors: JW_EINVAL for another number, before all else; JW_ESRCH, JW_EBADF, JW_ENOTSOCK.
+#[must_use]
+#[unsafe(no_mangle)]
+pub extern "C" fn jw_shutdown(
+    alloc: Global,
+    engine: &mut Handle,
+    pid: u32,
+    fd: u32,
+    how: u32,
+) -> i64
+    ensures done { IfSome (how_named how) (λ h. DoesEvent engine.old.shown
+        (Event.Proc pid (Step.Shutdown fd h)) result engine.new.shown) }
+    ensures invalid { IfNone (how_named how)
+        (RefusesFirst engine.old.shown Errno.EINVAL result engine.new.shown) }
+{
+    let Some(how) = how_named(how) else {
+        return refusal(Errno::EINVAL);
+    };
+    call_of(engine, pid, Step::Shutdown { on: Fd(fd), how })
+}
+
+/// Returns what C means by this number of shutdown(2).
+fn how_named(how: u32) -> Option<Shutdown>
+    ensures { result ≡ how_named how }
+{
+    match how {
+        0 => Some(Shutdown::Read),
+        1 => Some(Shutdown::Write),
+        2 => Some(Shutdown::Both),
+        _ => None,
+    }
 }
 
 /// Connects a socket to the listener of this name, without waiting (connect(2)). The socket is

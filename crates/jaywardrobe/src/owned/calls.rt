@@ -8,7 +8,7 @@ ghost use Rattle.af_steps.specs.Rooms.{CannotFail};
 
 use crate::owned::Owned;
 use af_base::errno::Errno;
-use af_base::events::{Reply, SockType, Step};
+use af_base::events::{Reply, Shutdown, SockType, Step};
 use af_base::ids::{Fd, Pid, Uid};
 use af_base::items::{Bytes, Fds};
 use af_steps::{Finished, Progress, Received};
@@ -81,6 +81,17 @@ impl<T> Owned<T> {
         ensures values { self.new.values ≡ self.old.values }
     {
         self.engine.limit(pid, nofile)
+    }
+
+    /// Closes ends of a socket, and those of its peer that they meet: `Engine::shutdown`.
+    pub fn shutdown(&mut self, pid: Pid, on: Fd, how: Shutdown) -> Result<(), Errno>
+        ensures done { OnOk result
+            (Does self.old.machine pid (Step.Shutdown on how) Reply.Ok self.new.machine) }
+        ensures refused { IfErr result (λ e.
+            Refuses self.old.machine pid (Step.Shutdown on how) e self.new.machine) }
+        ensures values { self.new.values ≡ self.old.values }
+    {
+        self.engine.shutdown(pid, on, how)
     }
 
     /// Ends a process: `Engine::exit`.

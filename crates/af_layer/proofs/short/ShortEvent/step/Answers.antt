@@ -37,3 +37,6 @@ returns-in-Accept c = short_step _ _ _ _ (step.Accept c.in-Accept.on) (ap event_
 
 pub returns-in-Limit : goal.returns-in-Limit
 returns-in-Limit c = short_step _ _ _ _ (step.Limit c.in-Limit.nofile) (ap event_of c.in-Limit.is) c.limit.result (λ _. answered.Ok) _ c.limit.ensures.done c.limit.ensures.refused c.short_reply-in-Limit.ensures.ok c.short_reply-in-Limit.ensures.err
+
+pub returns-in-Shutdown : goal.returns-in-Shutdown
+returns-in-Shutdown c = short_step _ _ _ _ (step.Shutdown c.in-Shutdown.on c.in-Shutdown.how) (ap event_of c.in-Shutdown.is) c.shutdown.result (λ _. answered.Ok) _ c.shutdown.ensures.done c.shutdown.ensures.refused c.short_reply-in-Shutdown.ensures.ok c.short_reply-in-Shutdown.ensures.err

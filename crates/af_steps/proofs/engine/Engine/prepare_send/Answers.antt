@@ -71,7 +71,7 @@ returns-clause-room c =
     subst (λ (x : Machine). HasRoomForMessage x.world g m) c.self.view_is
     (record {
       socket = search rules;
-      queue = leb-false MAX_MESSAGES (length (queue_at w g)) (none-fits (room_row w q g (length c.args.attach.now)) room).rest.rest.here;
+      queue = leb-false MAX_MESSAGES (length (queue_at w g)) (none-fits (room_row w q g (length c.args.attach.now)) room).rest.rest.rest.here;
       tabled = sent-tabled found c.args.bytes.now c.args.attach.now m is;
       user = (c.args.pid, process.there ∙ ap Some (sym (is_process process)), c.in_ok-user.ensures.user ∙ ap (λ x. x.user) (sym (is_process process)));
       within = sent-within found c.args.bytes.now c.args.attach.now m is c.in_ok-check_parts.ensures.ok;
