@@ -12,6 +12,7 @@ ghost use Rattle.af_base.specs.Table.{lowest_free};
 ghost use Rattle.af_base.specs.Told.{AreChanged, AreSocketsOnce, TellsReleased};
 ghost use Rattle.af_collect.specs.Limits.{IsBelowLimit};
 ghost use Rattle.af_collect.specs.StoreView.{room_at};
+ghost use Rattle.af_desc.specs.Told.{since_telling};
 
 use crate::holdings::Holdings;
 use crate::progress::{PassProgress, Stage};
@@ -19,6 +20,7 @@ use crate::tables::{ref_table, unref_table};
 use af_base::events::SockType;
 use af_base::ids::{Fd, FileRef, Ino, Pid, Uid};
 use af_base::limits::MAX_NOFILE;
+use af_desc::ToldList;
 use af_ledger::Place;
 use std::alloc::{AllocError, Global};
 use std::marker::Model;
@@ -154,37 +156,15 @@ impl Store {
         holdings.files.room_for_message()
     }
 
-    /// Begins to list freed files, and empties both lists. On an error nothing has changed.
-    pub fn tell_released(&mut self) -> Result<(), AllocError>
+    /// Begins to keep that list, and empties both. On an error nothing has changed.
+    pub fn tell(&mut self, list: ToldList) -> Result<(), AllocError>
         ensures ok { OnOk result (self.new ≡ record self.old {
-          since = record {
-            changed = self.old.since.changed;
-            released = true;
-            files = self.old.world.files;
-            next = self.old.world.next_ino;
-          };
+          since = since_telling list self.old.since self.old.world.files self.old.world.next_ino;
         }) }
         ensures err { OnErr result (self.new ≡ self.old) }
     {
         let holdings = &mut self.holdings;
-        holdings.files.tell_released()
-    }
-
-    /// Begins to list sockets whose readiness may have changed, and empties both lists. On an error
-    /// nothing has changed.
-    pub fn tell_changed(&mut self) -> Result<(), AllocError>
-        ensures ok { OnOk result (self.new ≡ record self.old {
-          since = record {
-            changed = true;
-            released = self.old.since.released;
-            files = self.old.world.files;
-            next = self.old.world.next_ino;
-          };
-        }) }
-        ensures err { OnErr result (self.new ≡ self.old) }
-    {
-        let holdings = &mut self.holdings;
-        holdings.files.tell_changed()
+        holdings.files.tell(list)
     }
 
     /// Returns the numbers of the files that were freed since the lists were last emptied, each

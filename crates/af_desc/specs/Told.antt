@@ -1,6 +1,6 @@
 -- The lists of the files that were freed and of the sockets whose readiness may have changed,
 -- beside the rows. Definitions that name no manual page are this project's own.
-use Rattle.std.specs.Prelude.{◌≡◌, ◌≤◌, ◌<◌, ◌+◌, ◌&&◌, ℕ, Bool, true, false, List, Some, IsTrue, is_some}
+use Rattle.std.specs.Prelude.{◌≡◌, ◌≤◌, ◌<◌, ◌+◌, ◌&&◌, ◌||◌, ℕ, Bool, true, false, List, Some, IsTrue, is_some}
 use Rattle.std.specs.FinMap as map
 use Rattle.slab.specs.Slab.{Slab}
 use Rattle.af_base.specs.Counts.{ListsExactly}
@@ -11,6 +11,8 @@ use Rattle.ordered_slab.specs.OrderedSlabView.{OrderedSlabView}
 use Rattle.ordered_slab.specs.Parts.{part}
 use Rattle.af_queue.specs.declared.chain.Node.{Node}
 use Rattle.af_desc.specs.declared.file_row.FileRow.{FileRow}
+use Rattle.af_desc.specs.declared.told_lists.ToldList.{ToldList}
+use Rattle.af_desc.specs.declared.told_lists.ToldList.TheVariants.{Changed, Released}
 use Rattle.af_desc.specs.FileTableView.{file_in, AreChained}
 
 -- Which lists are kept, the changed sockets and the freed files, and for how many live files in all
@@ -27,6 +29,25 @@ abbrev pub since_of : ToldListsView → Map File → ℕ → Since
 since_of told files next = record {
   changed = told.tells_changed;
   released = told.tells_released;
+  files = files;
+  next = next;
+}
+
+-- Whether the list is that of changed sockets.
+abbrev pub is_changed : ToldList → Bool
+is_changed Changed = true
+is_changed Released = false
+
+-- Whether the list is that of freed files.
+abbrev pub is_released : ToldList → Bool
+is_released Changed = false
+is_released Released = true
+
+-- The period that begins with these files and this next number, in which that list is kept too.
+abbrev pub since_telling : ToldList → Since → Map File → ℕ → Since
+since_telling list since files next = record {
+  changed = is_changed list || since.changed;
+  released = is_released list || since.released;
   files = files;
   next = next;
 }

@@ -18,13 +18,14 @@ ghost use Rattle.af_desc.specs.FilesView.{received_of, socket_in};
 ghost use Rattle.af_desc.specs.FileTableView.{file_of, is_due_row, is_white_in, with_row};
 ghost use Rattle.af_desc.specs.FileTableView.{with_socket, with_socket_and_room, without_row};
 ghost use Rattle.af_desc.specs.Holding.{IsContents, IsPopped, without_popped};
+ghost use Rattle.af_desc.specs.Told.{since_telling};
 ghost use Rattle.af_mark.specs.Grey.{black_mark, grey_mark};
 ghost use Rattle.af_queue.specs.TakenView.{nothing_received};
 
 use crate::contents::{Contents, Popped};
 use crate::file_row::FileRow;
 use crate::socket::{FileKind, Socket};
-use crate::told_lists::ToldLists;
+use crate::told_lists::{ToldList, ToldLists};
 use af_base::ids::{FileRef, Ino, Uid};
 use af_base::items::Bytes;
 use af_base::limits::{MAX_INO, MAX_MESSAGES};
@@ -628,48 +629,18 @@ impl FileTable {
         self.rows.next_after(ino, at)
     }
 
-    /// Begins to list freed files, and empties both lists. On an error nothing has changed.
+    /// Begins to keep that list, and empties both. On an error nothing has changed.
     #[tactic(auto, using(crate::proofs::FileTableInvariant::cleaned_rows))]
-    pub fn tell_released(&mut self) -> Result<(), AllocError>
+    pub fn tell(&mut self, list: ToldList) -> Result<(), AllocError>
         ensures ok { OnOk result (self.new ≡ record self.old {
-          since = record {
-            changed = self.old.since.changed;
-            released = true;
-            files = self.old.files;
-            next = self.old.last + 1;
-          };
+          since = since_telling list self.old.since self.old.files (self.old.last + 1);
           room = self.new.room;
           space = self.new.space;
         }) }
         ensures space { self.new.space ≤ self.old.space }
         ensures err { OnErr result (self.new ≡ self.old) }
     {
-        self.told.tell_released(self.rows.len())?;
-        self.room = 0;
-        self.told.clear(&mut self.rows);
-        self.since_rows = Snapshot::of(&self.rows);
-        self.since_nodes = Snapshot::of(&self.nodes);
-        Ok(())
-    }
-
-    /// Begins to list sockets whose readiness may have changed, and empties both lists. On an error
-    /// nothing has changed.
-    #[tactic(auto, using(crate::proofs::FileTableInvariant::cleaned_rows))]
-    pub fn tell_changed(&mut self) -> Result<(), AllocError>
-        ensures ok { OnOk result (self.new ≡ record self.old {
-          since = record {
-            changed = true;
-            released = self.old.since.released;
-            files = self.old.files;
-            next = self.old.last + 1;
-          };
-          room = self.new.room;
-          space = self.new.space;
-        }) }
-        ensures space { self.new.space ≤ self.old.space }
-        ensures err { OnErr result (self.new ≡ self.old) }
-    {
-        self.told.tell_changed(self.rows.len())?;
+        self.told.tell(list, self.rows.len())?;
         self.room = 0;
         self.told.clear(&mut self.rows);
         self.since_rows = Snapshot::of(&self.rows);

@@ -18,13 +18,14 @@ ghost use Rattle.af_desc.specs.FilesView.{AreNamed, after_end, changed, changed_
 ghost use Rattle.af_desc.specs.FilesView.{freed, is_full, is_live, is_unmarked_socket, name_of};
 ghost use Rattle.af_desc.specs.FilesView.{paired, received_from, received_of, socket_in, without};
 ghost use Rattle.af_desc.specs.Holding.{IsPopped, without_popped};
+ghost use Rattle.af_desc.specs.Told.{since_telling};
 ghost use Rattle.af_queue.specs.TakenView.{nothing_received};
 
 use crate::contents::Popped;
 use crate::counts::more_embryos;
 use crate::file_table::FileTable;
 use crate::socket::{FileKind, Socket};
-use crate::told_lists::widen;
+use crate::told_lists::{ToldList, widen};
 use af_base::events::SockType;
 use af_base::file_list::swap_remove_file;
 use af_base::ids::{FileRef, Ino, Uid};
@@ -464,35 +465,14 @@ impl Files {
 }
 
 impl Files {
-    /// Begins to list freed files, and empties both lists. On an error nothing has changed.
-    pub fn tell_released(&mut self) -> Result<(), AllocError>
+    /// Begins to keep that list, and empties both. On an error nothing has changed.
+    pub fn tell(&mut self, list: ToldList) -> Result<(), AllocError>
         ensures ok { OnOk result (self.new ≡ record self.old {
-          since = record {
-            changed = self.old.since.changed;
-            released = true;
-            files = self.old.files;
-            next = self.old.next;
-          };
+          since = since_telling list self.old.since self.old.files self.old.next;
         }) }
         ensures err { OnErr result (self.new ≡ self.old) }
     {
-        self.rows.tell_released()
-    }
-
-    /// Begins to list sockets whose readiness may have changed, and empties both lists. On an error
-    /// nothing has changed.
-    pub fn tell_changed(&mut self) -> Result<(), AllocError>
-        ensures ok { OnOk result (self.new ≡ record self.old {
-          since = record {
-            changed = true;
-            released = self.old.since.released;
-            files = self.old.files;
-            next = self.old.next;
-          };
-        }) }
-        ensures err { OnErr result (self.new ≡ self.old) }
-    {
-        self.rows.tell_changed()
+        self.rows.tell(list)
     }
 
     /// Returns the numbers of the files that were freed since the lists were last emptied, each

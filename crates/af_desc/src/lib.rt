@@ -15,3 +15,4 @@ mod told_lists;
 pub use contents::{Contents, Popped};
 pub use files::Files;
 pub use socket::Socket;
+pub use told_lists::ToldList;

@@ -1,11 +1,11 @@
 //! The lists of the files that were freed and of the sockets whose readiness may have changed.
 ghost use Rattle.std.specs.Prelude.{◌≡◌, ◌+◌, ◌≤◌, ◌<◌, ◌∷◌, ◌++◌, ◌&&◌, [], true, false};
-ghost use Rattle.std.specs.Prelude.{Some, IfOk, OnOk, OnErr, if◌then◌else◌, is_some, length};
+ghost use Rattle.std.specs.Prelude.{◌||◌, Some, IfOk, OnOk, OnErr, if◌then◌else◌, is_some, length};
 ghost use Rattle.std.specs.Prelude.{vec_capacity};
 ghost use Rattle.std.specs.FinMap as map;
 ghost use Rattle.af_base.specs.World.{Map};
 ghost use Rattle.af_desc.specs.declared.file_row.FileRow.{FileRow};
-ghost use Rattle.af_desc.specs.Told.{cleaned, is_listed, IsDirtyList};
+ghost use Rattle.af_desc.specs.Told.{cleaned, is_changed, is_listed, is_released, IsDirtyList};
 
 use crate::dirty_mark::DirtyMark;
 use crate::file_row::FileRow;
@@ -16,6 +16,15 @@ use af_mark::clamp_index;
 use ordered_slab::OrderedSlab;
 use std::alloc::{AllocError, Global};
 use std::marker::Model;
+
+/// One of the two lists that a program can ask for.
+#[derive(Clone, Copy, Debug, PartialEq, Eq)]
+pub enum ToldList {
+    /// The sockets whose readiness may have changed.
+    Changed,
+    /// The files that were freed.
+    Released,
+}
 
 /// The list of sockets whose readiness may have changed, and that of files that were freed, each if
 /// a program asks for it. A list that is kept has room for all live files, up to `space` of them.
@@ -126,43 +135,34 @@ impl ToldLists {
         Ok(())
     }
 
-    /// Begins to list freed files, with room for `live` of them, and empties that list. On an error
-    /// nothing has changed.
-    pub fn tell_released(&mut self, live: usize) -> Result<(), AllocError>
+    /// Begins to keep that list, with room for `live` files, and empties it if it is that of freed
+    /// files. On an error nothing has changed.
+    pub fn tell(&mut self, list: ToldList, live: usize) -> Result<(), AllocError>
         requires { live ≤ self.old.space }
         ensures ok { OnOk result (self.new ≡ record self.old {
-          tells_released = true;
-          released = [];
+          tells_changed = is_changed list || self.old.tells_changed;
+          tells_released = is_released list || self.old.tells_released;
+          released = if is_released list then [] else self.old.released;
           space = self.new.space;
         }) }
         ensures room { live ≤ self.new.space }
         ensures space { self.new.space ≤ self.old.space }
         ensures err { OnErr result (self.new ≡ self.old) }
     {
-        widen(&mut self.released, live)?;
-        self.released.clear();
+        match list {
+            ToldList::Changed => {
+                widen(&mut self.changed, live)?;
+                self.tells_changed = true;
+                self.space = self.space.min(self.changed.capacity());
+            }
+            ToldList::Released => {
+                widen(&mut self.released, live)?;
+                self.released.clear();
+                self.tells_released = true;
+                self.space = self.space.min(self.released.capacity());
+            }
+        }
         self.is_asked = true;
-        self.tells_released = true;
-        self.space = self.space.min(self.released.capacity());
-        Ok(())
-    }
-
-    /// Begins to list sockets whose readiness may have changed, with room for `live` of them. On an
-    /// error nothing has changed.
-    pub fn tell_changed(&mut self, live: usize) -> Result<(), AllocError>
-        requires { live ≤ self.old.space }
-        ensures ok { OnOk result (self.new ≡ record self.old {
-          tells_changed = true;
-          space = self.new.space;
-        }) }
-        ensures room { live ≤ self.new.space }
-        ensures space { self.new.space ≤ self.old.space }
-        ensures err { OnErr result (self.new ≡ self.old) }
-    {
-        widen(&mut self.changed, live)?;
-        self.is_asked = true;
-        self.tells_changed = true;
-        self.space = self.space.min(self.changed.capacity());
         Ok(())
     }
 

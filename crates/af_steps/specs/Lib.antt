@@ -3,3 +3,4 @@ pub mod Found
 pub mod MessageRoom
 pub mod Outcome
 pub mod Rooms
+pub mod Told

@@ -16,6 +16,7 @@ mod tables;
 mod told;
 mod views;
 
+pub use af_desc::ToldList;
 pub use engine::{Engine, RunStopped};
 pub use messages::Received;
 pub use passes::{Finished, Progress};

@@ -1,44 +1,22 @@
 //! The lists of freed files, and of sockets whose readiness may have changed.
-ghost use Rattle.std.specs.Prelude.{◌≡◌, true, OnErr, OnOk};
+ghost use Rattle.std.specs.Prelude.{◌≡◌, OnErr, OnOk};
 ghost use Rattle.af_base.specs.Told.{AreSocketsOnce, TellsChanged, TellsReleased};
+ghost use Rattle.af_steps.specs.Told.{telling};
 
 use crate::engine::Engine;
 use af_base::ids::{FileRef, Ino};
+use af_desc::ToldList;
 use std::alloc::AllocError;
 
 impl Engine {
-    /// Begins to list freed files (`released_files`), and empties both lists. Later an event that
-    /// makes a file also needs memory for its number in the list; no other call does. On an error
-    /// nothing has changed.
-    pub fn tell_released(&mut self) -> Result<(), AllocError>
-        ensures ok { OnOk result (self.new ≡ record self.old {
-          since = record {
-            changed = self.old.since.changed;
-            released = true;
-            files = self.old.world.files;
-            next = self.old.world.next_ino;
-          };
-        }) }
+    /// Begins to keep that list (`released_files` or `changed_sockets`), and empties both. Later an
+    /// event that makes a file also needs memory for it in the list; no other call does. On an
+    /// error nothing has changed.
+    pub fn tell(&mut self, list: ToldList) -> Result<(), AllocError>
+        ensures ok { OnOk result (self.new ≡ telling list self.old) }
         ensures err { OnErr result (self.new ≡ self.old) }
     {
-        self.store.tell_released()
-    }
-
-    /// Begins to list sockets whose readiness may have changed (`changed_sockets`), and empties
-    /// both lists. Later an event that makes a file also needs memory for it in the list; no other
-    /// call does. On an error nothing has changed.
-    pub fn tell_changed(&mut self) -> Result<(), AllocError>
-        ensures ok { OnOk result (self.new ≡ record self.old {
-          since = record {
-            changed = true;
-            released = self.old.since.released;
-            files = self.old.world.files;
-            next = self.old.world.next_ino;
-          };
-        }) }
-        ensures err { OnErr result (self.new ≡ self.old) }
-    {
-        self.store.tell_changed()
+        self.store.tell(list)
     }
 
     /// Returns the inode numbers of the files that were freed since the lists were last emptied,

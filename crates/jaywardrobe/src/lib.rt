@@ -44,5 +44,5 @@ pub use af_base::listing::{
 };
 pub use af_base::ready::Ready;
 pub use af_layer::Shared;
-pub use af_steps::{Engine, FileInfo, Finished, Progress, Received, RunStopped};
+pub use af_steps::{Engine, FileInfo, Finished, Progress, Received, RunStopped, ToldList};
 pub use owned::Owned;

@@ -24,7 +24,7 @@ mod calls;
 use af_base::errno::Errno;
 use af_base::events::{Reply, Step};
 use af_base::ids::{Fd, FileRef, Ino, Pid};
-use af_steps::Engine;
+use af_steps::{Engine, ToldList};
 use ordered_slab::OrderedSlab;
 use std::alloc::{AllocError, Global};
 use std::marker::Model;
@@ -77,7 +77,7 @@ impl<T> Owned<T> {
         ensures values { IfOk result (λ o. o.values ≡ map.empty) }
     {
         let mut engine = Engine::new(alloc)?;
-        engine.tell_released()?;
+        engine.tell(ToldList::Released)?;
         Ok(Owned {
             engine,
             values: OrderedSlab::new(alloc),
@@ -97,8 +97,8 @@ impl<T> Owned<T> {
         ensures values { IfOk result (λ o. o.values ≡ map.empty) }
     {
         let mut engine = Engine::new(alloc)?;
-        engine.tell_released()?;
-        engine.tell_changed()?;
+        engine.tell(ToldList::Released)?;
+        engine.tell(ToldList::Changed)?;
         Ok(Owned {
             engine,
             values: OrderedSlab::new(alloc),

@@ -1,34 +1,12 @@
 -- The calls on the list of freed files, and on that of the sockets whose readiness may have
 -- changed. Definitions that name no manual page are this project's own.
-use Rattle.std.specs.Prelude.{◌≡◌, ◌⊎◌, ℕ, ℤ, pos, true, List, length, Option, Some, None}
+use Rattle.std.specs.Prelude.{◌≡◌, ◌⊎◌, ℕ, ℤ, pos, List, length, Option, Some, None}
 use Rattle.af_base.specs.Pass.{Machine}
 use Rattle.af_base.specs.Told.{AreSocketsOnce, TellsChanged, TellsReleased}
 use Rattle.af_base.specs.World.{Since, World}
 use Rattle.af_base.specs.declared.errno.Errno.TheVariants.{ENOMEM}
 use Rattle.scm_c.specs.Codes.{error_code, no_engine}
 use Rattle.scm_c.specs.Written.{over}
-
--- The machine with a list of freed files from now on; both lists are empty.
-abbrev pub tells_released : Machine → Machine
-tells_released m = record m {
-  since = record {
-    changed = m.since.changed;
-    released = true;
-    files = m.world.files;
-    next = m.world.next_ino;
-  };
-}
-
--- The machine with a list of changed sockets from now on; both lists are empty.
-abbrev pub tells_changed : Machine → Machine
-tells_changed m = record m {
-  since = record {
-    changed = true;
-    released = m.since.released;
-    files = m.world.files;
-    next = m.world.next_ino;
-  };
-}
 
 -- The machine with both lists empty; which of them it keeps stays.
 abbrev pub cleared : Machine → Machine

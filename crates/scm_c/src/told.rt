@@ -1,14 +1,15 @@
 //! The lists of the files that were freed, and of the sockets whose readiness may have changed.
 ghost use Rattle.std.specs.Prelude.{◌≡◌};
+ghost use Rattle.af_steps.specs.Told.{Changed, Released, telling};
 ghost use Rattle.scm_c.specs.Calls.{Asks};
 ghost use Rattle.scm_c.specs.Told.{Alters, MayAlter, IsChangedWritten, IsReleasedWritten, cleared};
-ghost use Rattle.scm_c.specs.Told.{tells_changed, tells_released};
 ghost use Rattle.scm_c.specs.Written.{over};
 
 use crate::answers::{NO_ENGINE, refusal};
 use crate::handle::Handle;
 use af_base::errno::Errno;
 use af_base::ids::{FileRef, Ino};
+use af_steps::ToldList;
 use std::alloc::Global;
 
 /// Asks for the list of freed files, which jw_released writes, and empties both lists. A call that
@@ -19,15 +20,9 @@ use std::alloc::Global;
 #[must_use]
 #[unsafe(no_mangle)]
 pub extern "C" fn jw_tell_released(alloc: Global, engine: &mut Handle) -> i64
-    ensures { MayAlter engine.old.shown tells_released result engine.new.shown }
+    ensures { MayAlter engine.old.shown (telling Released) result engine.new.shown }
 {
-    let Some(inside) = engine.as_mut() else {
-        return NO_ENGINE;
-    };
-    match inside.tell_released() {
-        Ok(()) => 0,
-        Err(_) => refusal(Errno::ENOMEM),
-    }
+    tell(engine, ToldList::Released)
 }
 
 /// Asks for the list of sockets whose readiness may have changed (poll(2)), which jw_changed
@@ -38,15 +33,9 @@ pub extern "C" fn jw_tell_released(alloc: Global, engine: &mut Handle) -> i64
 #[must_use]
 #[unsafe(no_mangle)]
 pub extern "C" fn jw_tell_changed(alloc: Global, engine: &mut Handle) -> i64
-    ensures { MayAlter engine.old.shown tells_changed result engine.new.shown }
+    ensures { MayAlter engine.old.shown (telling Changed) result engine.new.shown }
 {
-    let Some(inside) = engine.as_mut() else {
-        return NO_ENGINE;
-    };
-    match inside.tell_changed() {
-        Ok(()) => 0,
-        Err(_) => refusal(Errno::ENOMEM),
-    }
+    tell(engine, ToldList::Changed)
 }
 
 /// Writes the inode numbers of the files that were freed since the lists were emptied last, each
@@ -97,6 +86,19 @@ pub extern "C" fn jw_clear_told(alloc: Global, engine: &mut Handle) -> i64
     };
     inside.clear_told();
     0
+}
+
+/// Asks for that list, and empties both. Answers 0, or ENOMEM.
+fn tell(engine: &mut Handle, list: ToldList) -> i64
+    ensures { MayAlter engine.old.shown (telling list) result engine.new.shown }
+{
+    let Some(inside) = engine.as_mut() else {
+        return NO_ENGINE;
+    };
+    match inside.tell(list) {
+        Ok(()) => 0,
+        Err(_) => refusal(Errno::ENOMEM),
+    }
 }
 
 /// Writes these inode numbers over the beginning of the place, as many as fit.
