@@ -126,7 +126,7 @@ impl Files {
         requires { IsCounted place.now (count_in_map self.old.counts file.now) }
         ensures { self.new ≡ without_file_ref place.now file.now self.old }
     {
-        let last = self.rows.sub_ref(place, file);
+        let last = self.rows.drop_ref(place, file);
         self.embryos = fewer_embryos(self.embryos, place);
         if last {
             self.unreferenced.push_reserved(file.duplicate());
@@ -159,7 +159,7 @@ impl Files {
         ensures last { result ≡ true → places_in (count_in_map self.old.counts file.now) ≡ 1 }
         ensures kept { result ≡ false → self.new ≡ without_file_ref Table file.now self.old }
     {
-        let Some(bare) = self.rows.sub_descriptor(file) else {
+        let Some(bare) = self.rows.drop_descriptor_ref(file) else {
             return false;
         };
         // The pass counts the files below its bound that it has still to mark, and lists the grey.

@@ -436,7 +436,7 @@ impl FileTable {
     /// Drops one place of a file, which has one. Returns whether it was the last. Takes no memory.
     #[inline(always)]
     #[tactic(auto, using(crate::proofs::FileTableView::chains, ordered_slab::proofs::Parts::parts, ordered_slab::proofs::Values::lent, af_ledger::proofs::Unreferenced::counted))]
-    pub fn sub_ref(&mut self, place: &Place, file: &FileRef) -> bool
+    pub fn drop_ref(&mut self, place: &Place, file: &FileRef) -> bool
         requires { IsCounted place.now (count_in_map self.old.counts file.now) }
         ensures counts { self.new ≡ record self.old {
           counts = map.insert self.old.counts file.now
@@ -471,7 +471,7 @@ impl FileTable {
     /// returns whether the file has no name and holds nothing. Takes no memory.
     #[inline(always)]
     #[tactic(auto, using(crate::proofs::FileTableView::chains, ordered_slab::proofs::Parts::parts, ordered_slab::proofs::Values::lent, af_ledger::proofs::Unreferenced::counted))]
-    pub fn sub_descriptor(&mut self, file: &FileRef) -> Option<bool>
+    pub fn drop_descriptor_ref(&mut self, file: &FileRef) -> Option<bool>
         requires { IsCounted Table (count_in_map self.old.counts file.now) }
         ensures counts { self.new ≡ record self.old {
           counts = map.insert self.old.counts file.now
@@ -533,7 +533,7 @@ impl FileTable {
     /// Returns whether this call marked it.
     #[inline(always)]
     #[tactic(auto, using(crate::proofs::FileTableView::chains, ordered_slab::proofs::Parts::parts, ordered_slab::proofs::Values::lent))]
-    pub fn shade(&mut self, file: &FileRef, epoch: u32, at: usize) -> bool
+    pub fn mark_grey(&mut self, file: &FileRef, epoch: u32, at: usize) -> bool
         ensures white { result ≡ is_white_in epoch self.old.marks file.now }
         ensures marked { self.new ≡ record self.old {
           marks = if result then map.insert self.old.marks file.now (grey_mark epoch)
@@ -555,7 +555,7 @@ impl FileTable {
     /// holds, by the same look at its row; `None` if this call did not mark it.
     #[inline(always)]
     #[tactic(auto, using(crate::proofs::FileTableView::chains, ordered_slab::proofs::Parts::parts, ordered_slab::proofs::Values::lent))]
-    pub fn visit(&mut self, file: &FileRef, epoch: u32) -> Option<Contents>
+    pub fn mark_tabled(&mut self, file: &FileRef, epoch: u32) -> Option<Contents>
         ensures due { is_some result ≡ is_due_row epoch self.old.counts self.old.marks file.now }
         ensures marked { is_some result ≡ true → self.new ≡ record self.old {
           marks = map.insert self.old.marks file.now (black_mark epoch);
@@ -575,7 +575,7 @@ impl FileTable {
     /// Marks a file black, which is known. Returns what it holds, by the same look at its row.
     #[inline(always)]
     #[tactic(auto, using(crate::proofs::FileTableView::chains, ordered_slab::proofs::Parts::parts, ordered_slab::proofs::Values::lent))]
-    pub fn scan(&mut self, file: &FileRef, epoch: u32) -> Contents
+    pub fn mark_black(&mut self, file: &FileRef, epoch: u32) -> Contents
         requires { IsTrue (map.contains_key self.old.marks file.now) }
         ensures set { self.new ≡ record self.old {
           marks = map.insert self.old.marks file.now (black_mark epoch);

@@ -72,7 +72,7 @@ impl Files {
         if file.ino().0 >= self.bound {
             return;
         }
-        if self.rows.shade(file, self.epoch, self.grey.len()) {
+        if self.rows.mark_grey(file, self.epoch, self.grey.len()) {
             self.white -= 1;
             self.grey.push_reserved(file.duplicate());
         }
@@ -94,7 +94,7 @@ impl Files {
         if file.ino().0 >= self.bound {
             return None;
         }
-        let held = self.rows.visit(file, self.epoch)?;
+        let held = self.rows.mark_tabled(file, self.epoch)?;
         self.white -= 1;
         Some(held)
     }
@@ -110,7 +110,7 @@ impl Files {
             ((self.new ≡ self.old) × ((f : ℕ) → is_grey self.old.marks f ≡ false)) }
     {
         let file = self.grey.pop()?;
-        let held = self.rows.scan(&file, self.epoch);
+        let held = self.rows.mark_black(&file, self.epoch);
         Some((file, held))
     }
 

@@ -16,7 +16,7 @@ use Rattle.af_mark.specs.declared.color.Color.{Color}
 use Rattle.af_desc.specs.FilesView.{FilesInvariant, FilesView, after_end, freed, name_in, without, without_file_ref}
 use Rattle.af_desc.proofs.FilesInvariant.{counted-fewer, filed-counted, filed-removed, seen, seen-without, white-gone}
 use Rattle.af_desc.proofs.FileNames.{name-at, named-gone}
-use Rattle.af_desc.proofs.files.Files.drop_descriptor.Goals.{After-sub_descriptor}
+use Rattle.af_desc.proofs.files.Files.drop_descriptor.Goals.{After-drop_descriptor_ref}
 use Rattle.af_desc.proofs.files.Files.drop_descriptor.Goals as goal
 
 -- Where the list of grey files is empty, none is grey.
@@ -35,14 +35,14 @@ struck-last : (fs : List ℕ) (k f : ℕ) → count_in f fs ≡ count_in f (fs +
 struck-last fs k f = let more = sum_by-append (one f) fs (k ∷ []) in let last = count-cons f k [] in omega (arith, more, last)
 
 -- The file had the place that it loses.
-counted : (c : After-sub_descriptor) → IsCounted Table (count_in_map c.self.inside.rows.counts c.args.file.now)
+counted : (c : After-drop_descriptor_ref) → IsCounted Table (count_in_map c.self.inside.rows.counts c.args.file.now)
 counted c = subst (λ (v : FilesView). IsCounted Table (count_in_map v.counts c.args.file.now)) (sym c.self.view_is) c.requires
 
 -- Where it was the last, the file may be listed as unreferenced.
-listed : (c : After-sub_descriptor) → nat_eq (places_in (count_in_map c.self.inside.rows.counts c.args.file.now)) 1 ≡ true → FilesInvariant c.sub_descriptor.new.self (c.self.inside.unreferenced.items ++ c.args.file.now ∷ []) (vec_capacity c.self.inside.unreferenced) c.self.inside.names c.self.inside.next c.self.inside.epoch c.self.inside.grey.items (vec_capacity c.self.inside.grey) c.self.inside.embryos c.self.inside.bound c.self.inside.white
+listed : (c : After-drop_descriptor_ref) → nat_eq (places_in (count_in_map c.self.inside.rows.counts c.args.file.now)) 1 ≡ true → FilesInvariant c.drop_descriptor_ref.new.self (c.self.inside.unreferenced.items ++ c.args.file.now ∷ []) (vec_capacity c.self.inside.unreferenced) c.self.inside.names c.self.inside.next c.self.inside.epoch c.self.inside.grey.items (vec_capacity c.self.inside.grey) c.self.inside.embryos c.self.inside.bound c.self.inside.white
 listed c last =
     let a = c.self.inside in
-    let one = c.sub_descriptor.ensures in
+    let one = c.drop_descriptor_ref.ensures in
     let kept = c.self.invariant in
     let file = c.args.file.now in
     let on = (lowered-pushed a.rows.counts _ a.unreferenced.items file kept.unreferenced_listed Table refl (counted c) last).0 in
@@ -52,8 +52,8 @@ listed c last =
 pub invariant_of-self : goal.invariant_of-self
 invariant_of-self c =
     let a = c.self.inside in
-    let had = counted (goal.at.invariant_of-self c).After-sub_descriptor in
-    let one = c.sub_descriptor.ensures in
+    let had = counted (goal.at.invariant_of-self c).After-drop_descriptor_ref in
+    let one = c.drop_descriptor_ref.ensures in
     let kept = c.self.invariant in
     let file = c.args.file.now in
     let list = a.unreferenced in
@@ -65,15 +65,15 @@ invariant_of-self c =
 pub push_reserved-requires : goal.push_reserved-requires
 push_reserved-requires c =
     let a = c.self.inside in
-    let one = c.sub_descriptor.ensures in
-    let low = (lowered-pushed a.rows.counts _ a.unreferenced.items c.args.file.now c.self.invariant.unreferenced_listed Table (ap (λ r. r.counts) one.counts) (counted (goal.at.push_reserved-requires c).After-sub_descriptor) (sym one.last ∙ ap is_some c.in-Some.is)).1 in
+    let one = c.drop_descriptor_ref.ensures in
+    let low = (lowered-pushed a.rows.counts _ a.unreferenced.items c.args.file.now c.self.invariant.unreferenced_listed Table (ap (λ r. r.counts) one.counts) (counted (goal.at.push_reserved-requires c).After-drop_descriptor_ref) (sym one.last ∙ ap is_some c.in-Some.is)).1 in
     omega (arith, low, c.self.invariant.fits, one.len, a.unreferenced.ok.0)
 
 pub invariant_of-self-2 : goal.invariant_of-self-2
 invariant_of-self-2 c =
     let a = c.self.inside in
-    let had = counted (goal.at.invariant_of-self-2 c).After-sub_descriptor in
-    let one = c.sub_descriptor.ensures in
+    let had = counted (goal.at.invariant_of-self-2 c).After-drop_descriptor_ref in
+    let one = c.drop_descriptor_ref.ensures in
     let kept = c.self.invariant in
     let file = c.args.file.now in
     let list = c.push_reserved.new.self in
@@ -89,9 +89,9 @@ pub invariant_of-self-then-is_empty : goal.invariant_of-self-then-is_empty
 invariant_of-self-then-is_empty c =
     let a = c.self.inside in
     let k = c.args.file.now in
-    let one = c.sub_descriptor.ensures in
-    let rows = c.sub_descriptor.new.self in
-    let h = listed (goal.at.invariant_of-self-then-is_empty c).After-sub_descriptor (sym one.last ∙ ap is_some c.in-Some.is) in
+    let one = c.drop_descriptor_ref.ensures in
+    let rows = c.drop_descriptor_ref.new.self in
+    let h = listed (goal.at.invariant_of-self-then-is_empty c).After-drop_descriptor_ref (sym one.last ∙ ap is_some c.in-Some.is) in
     let none : length a.grey.items ≡ 0 = search rules in
     let nameless = ap (λ r. name_in r.files k) one.counts ∙ one.nameless (c.in-Some.is ∙ ap Some c.if-bare.true) in
     let few = (white-gone rows.marks rows.marks a.epoch a.bound a.next a.white h.whites k k _ _ refl refl refl).1 in
@@ -102,9 +102,9 @@ pub returns-then-is_empty-clause-removed : goal.returns-then-is_empty-clause-rem
 returns-then-is_empty-clause-removed c = λ _.
     let a = c.self.inside in
     let k = c.args.file.now in
-    let rows = c.sub_descriptor.new.self in
+    let rows = c.drop_descriptor_ref.new.self in
     let gone = ap (λ r. seen a.epoch a.bound r a.next) c.remove-kind.ensures.removed ∙ seen-without a.epoch a.bound rows a.next c.remove-kind.new.self.room c.remove-kind.new.self.space k in
-    let left = ap (λ r. seen a.epoch a.bound r a.next) c.sub_descriptor.ensures.counts ∙ ap (without_file_ref Table k) c.self.view_is in
+    let left = ap (λ r. seen a.epoch a.bound r a.next) c.drop_descriptor_ref.ensures.counts ∙ ap (without_file_ref Table k) c.self.view_is in
     c.hang_up_peer.ensures ∙ ap (λ (v : FilesView). record v { files = after_end c.remove-kind.result.0 v.files }) gone
     ∙ ap {B = FilesView} (λ o. record (without k (seen a.epoch a.bound rows a.next)) { files = after_end o (map.remove rows.files k) }) c.remove-kind.ensures.socket
     ∙ ap (freed k) left

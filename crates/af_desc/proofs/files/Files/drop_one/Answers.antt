@@ -11,7 +11,7 @@ pub push_reserved-requires : goal.push_reserved-requires
 push_reserved-requires c =
     let a = c.self.inside in
     let counted = subst (λ (v : FilesView). IsCounted c.args.place.now (count_in_map v.counts c.args.file.now)) (sym c.self.view_is) c.requires in
-    let one = c.sub_ref-last.ensures in
+    let one = c.drop_ref-last.ensures in
     let low = (lowered-pushed a.rows.counts _ a.unreferenced.items c.args.file.now c.self.invariant.unreferenced_listed c.args.place.now (ap (λ r. r.counts) one.counts) counted (sym one.last ∙ c.if-last.true)).1 in
     omega (arith, low, c.self.invariant.fits, one.len, a.unreferenced.ok.0)
 
@@ -19,7 +19,7 @@ pub invariant_of-self : goal.invariant_of-self
 invariant_of-self c =
     let a = c.self.inside in
     let counted = subst (λ (v : FilesView). IsCounted c.args.place.now (count_in_map v.counts c.args.file.now)) (sym c.self.view_is) c.requires in
-    let one = c.sub_ref-last.ensures in
+    let one = c.drop_ref-last.ensures in
     let kept = c.self.invariant in
     let file = c.args.file.now in
     let place = c.args.place.now in
@@ -35,7 +35,7 @@ pub invariant_of-self-else-last : goal.invariant_of-self-else-last
 invariant_of-self-else-last c =
     let a = c.self.inside in
     let counted = subst (λ (v : FilesView). IsCounted c.args.place.now (count_in_map v.counts c.args.file.now)) (sym c.self.view_is) c.requires in
-    let one = c.sub_ref-last.ensures in
+    let one = c.drop_ref-last.ensures in
     let kept = c.self.invariant in
     let file = c.args.file.now in
     let place = c.args.place.now in

@@ -17,7 +17,7 @@ returns-in_err-held-clause-marks c =
     let f = c.args.file.now in
     let e = c.in_err-held.ensures in
     let old = seen a.epoch a.bound a.rows a.next in
-    subst (λ v. Visits (seen a.epoch a.bound c.visit.new.self a.next) v f) c.self.view_is
+    subst (λ v. Visits (seen a.epoch a.bound c.mark_tabled.new.self a.next) v f) c.self.view_is
     (ap (λ r. seen a.epoch a.bound r a.next) e.none ∙ ap {A = MarksView} {B = FilesView} (λ m. record old { marks = m }) (sym (visited-not a.epoch a.bound a.rows f (sym e.due))))
 
 pub returns-in_err-held-clause-due : goal.returns-in_err-held-clause-due
@@ -42,7 +42,7 @@ invariant_of-self-2 c =
     let f = c.args.file.now in
     let e = c.in_ok-held.ensures in
     let same : f ≡ c.ino-2.inside.0 = sym c.ino.ensures ∙ sym c.ino-2.view_is in
-    filed-black a.epoch a.bound a.rows f c.self.invariant (due-white a.epoch a.bound a.rows f (sym e.due)) (omega (arith, same, c.if-ino-self.false)) c.visit.new.self e.len (e.marked refl)
+    filed-black a.epoch a.bound a.rows f c.self.invariant (due-white a.epoch a.bound a.rows f (sym e.due)) (omega (arith, same, c.if-ino-self.false)) c.mark_tabled.new.self e.len (e.marked refl)
 
 -- It is black.
 pub returns-clause-marks : goal.returns-clause-marks
@@ -51,7 +51,7 @@ returns-clause-marks c =
     let f = c.args.file.now in
     let e = c.in_ok-held.ensures in
     let same : f ≡ c.ino-2.inside.0 = sym c.ino.ensures ∙ sym c.ino-2.view_is in
-    subst (λ v. Visits (seen a.epoch a.bound c.visit.new.self a.next) v f) c.self.view_is
+    subst (λ v. Visits (seen a.epoch a.bound c.mark_tabled.new.self a.next) v f) c.self.view_is
     (ap (λ r. seen a.epoch a.bound r a.next) (e.marked refl) ∙ seen-visited a.epoch a.bound a.rows f (omega (arith, same, c.if-ino-self.false)) (sym e.due) a.next)
 
 pub returns-clause-due : goal.returns-clause-due

@@ -12,7 +12,7 @@ use Rattle.ordered_slab.proofs.Parts.{part_get}
 use Rattle.af_desc.specs.declared.file_row.FileRow.{FileRow}
 use Rattle.af_desc.specs.FileTableView.{counts_of, FileTableView}
 use Rattle.af_desc.proofs.FileTableInvariant.{kept-marked}
-use Rattle.af_desc.proofs.file_table.FileTable.sub_ref.Goals as goal
+use Rattle.af_desc.proofs.file_table.FileTable.drop_ref.Goals as goal
 
 pub invariant_of-self : goal.invariant_of-self
 invariant_of-self c = kept-marked c.self.invariant c.args.file.now c.unwrap-row.result.now (sym c.get_mut.ensures.value ∙ ap option_copied_mut c.unwrap-row.ensures) _ refl refl refl
