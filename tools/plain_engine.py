@@ -74,6 +74,18 @@ class File:
     # How many may wait at a listener.
     backlog: int = 0
     name: str = ""
+    # Whether shutdown(2) closed its input, and its output: of it, or of its peer.
+    no_input: bool = False
+    no_output: bool = False
+
+    @property
+    def is_ended(self) -> bool:
+        """Whether nothing more comes to a socket that was connected."""
+        return self.state == "hungup" or self.state == "connected" and self.no_input
+
+    def shut(self, input_too: bool, output_too: bool):
+        """Closes ends, which never open again."""
+        self.no_input, self.no_output = self.no_input or input_too, self.no_output or output_too
 
 
 class Message(NamedTuple):
@@ -262,7 +274,7 @@ class Engine:
         if client.state != "idle":
             raise Refused("EINVAL" if client.state == "listening" else "EISCONN")
         listener = self.named(name)
-        if not listener or listener.state != "listening":
+        if not listener or listener.state != "listening" or listener.no_input:
             raise Refused("ECONNREFUSED")
         if listener.kind != client.kind:
             raise Refused("EPROTOTYPE")
@@ -286,6 +298,15 @@ class Engine:
         self.numbers[process.pid, fd] = waiting[0].ino
         return f"fd {fd}"
 
+    def do_shutdown(self, process: Process, on: int, how: str) -> str:
+        """The peer's output goes with the input of a socket, and the peer's input with its output. What waits stays."""
+        socket = self.socket_at(process, on)
+        ends = how != "write", how != "read"
+        socket.shut(*ends)
+        if socket.peer:
+            self.file(socket.peer).shut(*reversed(ends))
+        return "ok"
+
     # Messages.
 
     def do_send(self, process: Process, on: int, data: bytes, *fds: int) -> str:
@@ -295,12 +316,16 @@ class Engine:
         if len(data) > MAX_BYTES:
             raise Refused("EMSGSIZE")
         attached = tuple(self.lookup(process, it) for it in fds)
-        if not socket.peer:
-            raise Refused("EPIPE" if socket.state == "hungup" else "ENOTCONN")
+        if socket.state in ("idle", "listening"):
+            raise Refused("ENOTCONN")
+        if not socket.peer or socket.no_output:
+            raise Refused("EPIPE")
         if fds and self.charged(process.user) > process.limit and not process.is_privileged:
             raise Refused("ETOOMANYREFS")
         if sum(map(self.charged, self.users)) + len(fds) > MAX_INFLIGHT:
             raise Refused("ENOBUFS")
+        if self.file(socket.peer).no_input:
+            raise Refused("EPIPE")
         if len(self.queued(socket.peer)) >= MAX_MESSAGES:
             raise Refused("EAGAIN")
         self.messages.append(Message(socket.peer, data, attached, process.user))
@@ -313,7 +338,7 @@ class Engine:
         if socket.state in ("idle", "listening"):
             raise Refused("ENOTCONN")
         if not self.queued(socket.ino):
-            if socket.state == "hungup":
+            if socket.is_ended:
                 return "end"
             raise Refused("EAGAIN")
         data, attached, is_cut = self.take(socket, most_bytes)
@@ -394,11 +419,14 @@ class Engine:
 
     def socket_at(self, process: Process, fd: int) -> File:
         """The socket that the number stands for."""
-        ino = self.lookup(process, fd)
-        file = next(it for it in self.files if it.ino == ino)
+        file = self.file(self.lookup(process, fd))
         if file.kind == "plain":
             raise Refused("ENOTSOCK")
         return file
+
+    def file(self, ino: int) -> File:
+        """The live file of this number."""
+        return next(it for it in self.files if it.ino == ino)
 
     def named(self, name: str) -> Optional[File]:
         """The socket of this name."""
@@ -440,12 +468,14 @@ class Engine:
         return [it for it in self.files if it.ino not in reached]
 
     def ready(self, file: File) -> Tuple[bool, bool, bool]:
-        """What poll(2) tells of a file: whether it is readable and writable, and whether its peer is gone."""
+        """What poll(2) tells of a file: whether it is readable and writable, and whether it is hung up: its peer is
+        gone, or both its ends are closed."""
         if file.kind == "plain":
             return True, True, False
-        is_hung_up = file.state == "hungup"
-        is_readable = is_hung_up or bool(self.queued(file.ino)) or bool(self.waiting(file.ino))
-        return is_readable, bool(file.peer) and len(self.queued(file.peer)) < MAX_MESSAGES, is_hung_up
+        is_readable = file.is_ended or bool(self.queued(file.ino)) or bool(self.waiting(file.ino))
+        takes_more = bool(file.peer) and not self.file(file.peer).no_input and not file.no_output
+        is_writable = takes_more and len(self.queued(file.peer)) < MAX_MESSAGES
+        return is_readable, is_writable, file.state == "hungup" or file.no_input and file.no_output
 
     def table(self) -> str:
         """The text of the report `table`."""

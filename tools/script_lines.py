@@ -11,7 +11,7 @@ MAX_NUMBER = 2**32 - 1
 MAX_PAYLOAD = 65_537
 MAX_ATTACHED = 1024
 # The words behind each first word, and behind a process's number and its verb: a number, a type, a name, bytes, the
-# version; and last priv or nothing, or items.
+# ends to close, the version; and last priv or nothing, or items.
 KEYWORDS = {
     b"spawn": "number number privilege",
     b"begin": "",
@@ -39,9 +39,10 @@ VERBS = {
     b"recv": "number number number",
     b"peek": "number number number",
     b"limit": "number",
+    b"shutdown": "number ends",
 }
 # The first version that has a verb, where that is not version 1; and the versions that a line can name.
-FIRST_VERSIONS = {b"peek": 2, b"limit": 2}
+FIRST_VERSIONS = {b"peek": 2, b"limit": 2, b"shutdown": 3}
 VERSIONS = {b"2": 2, b"3": 3}
 QUESTIONS = b"who", b"graph", b"help"
 WORD = re.compile(rb"[^ \t]+")
@@ -124,6 +125,8 @@ def fit(kind: str, word: Word):
         payload(word)
     elif kind == "type" and word.text not in (b"seqpacket", b"stream"):
         raise Misfit(word.at, "a type is seqpacket or stream")
+    elif kind == "ends" and word.text not in (b"read", b"write", b"both"):
+        raise Misfit(word.at, "HOW is read, write or both")
     elif kind == "version" and word.text not in VERSIONS:
         raise Misfit(word.at, "the versions to name are 2 and 3")
 
@@ -193,8 +196,9 @@ class Reader:
         form = first_form(words, len(line))
         if form.text == b"version" and self.version:
             raise Misfit(form.at, "only comments and empty lines can stand before a version")
-        if FIRST_VERSIONS.get(form.text, 1) > (self.version or 1):
-            raise Misfit(form.at, "this event needs the first line `version 2`")
+        first = FIRST_VERSIONS.get(form.text, 1)
+        if first > (self.version or 1):
+            raise Misfit(form.at, f"this event needs the first line `version {first}`")
         if not self.version:
             self.version = VERSIONS[words[1].text] if form.text == b"version" else 1
 
