@@ -45,6 +45,7 @@ WORDS = {
     "items": "ITEM ..",
     "privilege": "[priv]",
     "version": "N",
+    "how": "HOW",
 }
 Refusals = Dict[str, List[str]]
 # The compared facts: each has a name, the call that reads it, and the expected result.
@@ -148,9 +149,10 @@ def keywords() -> Dict[str, str]:
 
 
 def later_steps() -> Dict[str, str]:
-    """The verbs of the steps that only scripts of version 2 have."""
+    """The first version that has each step which scripts of version 1 do not have, by its verb."""
     text = text_of("crates/scm_lines/specs/Versions.antt")
-    return alike(it.lower() for it in re.findall(r"^first_number_of \(?step\.(\w+).* = 2$", text, re.M))
+    rows = re.findall(r"^first_number_of \(?step\.(\w+).* = (\d)$", text, re.M)
+    return {step.lower(): number for step, number in rows}
 
 
 def help_text() -> str:
@@ -161,7 +163,7 @@ def help_text() -> str:
 
 
 def helped() -> Dict[str, str]:
-    """The lines of version 2 that the help text explains."""
+    """The lines of later versions that the help text explains."""
     return alike(re.findall(r"^  (P? ?\S.*?)  ", help_text(), re.M))
 
 
@@ -202,7 +204,7 @@ def comparisons(rows: Dict[str, Row]) -> List[Comparison]:
     lines = {**{verb: row.line for verb, row in rows.items()}, **others}
     of_process = {verb: row.is_of_process for verb, row in rows.items()}
     named = {verb: f"{'Verb' if of_process.get(verb) else 'Keyword'}::{verb.capitalize()}" for verb in lines}
-    later = {verb: row.line for verb, row in rows.items() if row.is_later}
+    later = {verb: row for verb, row in rows.items() if row.version > 1}
     reports = alike(verb for verb in others if verb != "version")
     replies = alike(it for row in rows.values() for it in row.replies)
     return [
@@ -212,8 +214,8 @@ def comparisons(rows: Dict[str, Row]) -> List[Comparison]:
         ("include/jaywardrobe.h", declared, from_c),
         ("crates/scm_lines/specs/Forms.antt", forms, lines),
         ("crates/scm_lines/src/keywords.rt", keywords, named),
-        ("crates/scm_lines/specs/Versions.antt", later_steps, alike(later)),
-        ("crates/scmgc, version 2", helped, alike(later.values())),
+        ("crates/scm_lines/specs/Versions.antt", later_steps, {verb: str(row.version) for verb, row in later.items()}),
+        ("crates/scmgc, later versions", helped, alike(row.line for row in later.values())),
         ("crates/scmgc, examples", lambda: misnamed(lines), {}),
         (f"{LIST}, the replies", lambda: alike(first_cells("Reply | What it says")), replies),
         (f"{LIST}, the texts of reports", lambda: alike(first_cells("Line | Text")), reports),

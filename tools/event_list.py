@@ -28,8 +28,8 @@ class Row(NamedTuple):
     in_short: str
     refusals: List[Refusal]
     replies: List[str]
-    # Whether scripts of version 1 do not have it.
-    is_later: bool
+    # The first version of scripts that has it.
+    version: int
 
     @property
     def errors(self) -> List[str]:
@@ -68,5 +68,6 @@ def events() -> Dict[str, Row]:
             raise Unreadable(f"{LIST}: {verb} has two rows, or no list of refusals: {refused}")
         refusals = [Refusal(*it) for it in re.findall(REFUSAL, refused)]
         replies = re.findall(r"`([^`]+)`", does.partition("Reply: ")[2])
-        found[verb] = Row(line.strip("`"), in_short, refusals, replies, does.startswith("*Version 2.*"))
+        later = re.match(r"\*Version (\d)\.\*", does)
+        found[verb] = Row(line.strip("`"), in_short, refusals, replies, int(later[1]) if later else 1)
     return found
