@@ -27,6 +27,7 @@ from plain_engine import MAX_NOFILE, Event, spelled
 Ready = Dict[int, int]
 Socket = socket.socket
 TYPES = {"stream": socket.SOCK_STREAM, "seqpacket": socket.SOCK_SEQPACKET}
+HOW = {"read": socket.SHUT_RD, "write": socket.SHUT_WR, "both": socket.SHUT_RDWR}
 LIBC = ctypes.CDLL(None, use_errno=True)
 CLONE_NEWNET = 0x40000000
 PR_SET_KEEPCAPS, PR_SET_CHILD_SUBREAPER = 8, 36
@@ -115,6 +116,9 @@ class Steps:
 
     def accept(self, fd: int) -> str:
         return self.on(fd, lambda it: f"fd {new(it.accept()[0])[0]}")
+
+    def shutdown(self, fd: int, how: str) -> str:
+        return self.on(fd, lambda it: it.shutdown(HOW[how]))
 
     def send(self, fd: int, data: str, *fds: int) -> str:
         files = [(socket.SOL_SOCKET, socket.SCM_RIGHTS, array.array("i", fds))] if fds else []

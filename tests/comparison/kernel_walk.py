@@ -8,7 +8,7 @@ from typing import Callable, Dict, Iterator, List, NamedTuple
 
 from kernel_differences import Scene, allowed, avoided
 from kernel_processes import Answer, Kernel, Ready, Stuck
-from plain_engine import MAX_MESSAGES, Engine, Event, File
+from plain_engine import Engine, Event, File
 
 # A script for an engine: the next event may depend on the engine and on the replies so far.
 Script = Callable[[Engine], Iterator[Event]]
@@ -146,7 +146,8 @@ class Walk:
 
     def compare_ready(self):
         """poll(2) tells the same of each socket that a process has. (docs/PROFILE.md tells apart an
-        idle socket, and whether a hung up one is writable.)"""
+        idle socket, one that is writable there and not here, and a listener whose input is
+        closed.)"""
         looks, files = self.kernel.look(), self.live()
         for (pid, fd), ino in self.engine.numbers.items():
             if files[ino].state not in ("-", "idle"):
@@ -155,10 +156,9 @@ class Walk:
     def compare_socket(self, fd: int, file: File, ready: Ready):
         seen = ready.get(fd, 0)
         is_readable, is_writable, is_hung_up = self.engine.ready(file)
+        is_readable = is_readable or file.state == "listening" and file.no_input
         is_same = bool(seen & POLLIN) == is_readable and bool(seen & POLLHUP) == is_hung_up
-        if file.state == "connected" and len(self.engine.queued(file.peer)) < MAX_MESSAGES:
-            is_same = is_same and bool(seen & POLLOUT) == is_writable
-        if not is_same:
+        if not is_same or is_writable and not seen & POLLOUT:
             told = f"readable {is_readable}, writable {is_writable}, hung up {is_hung_up}"
             raise Fault(f"descriptor {fd} is {told}; poll(2) on the kernel tells {seen:#x}")
 

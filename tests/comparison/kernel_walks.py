@@ -4,8 +4,8 @@
     tests/comparison/kernel_walks.py [--seeds N] [--first SEED] [--events N] [--mix MIX]
 
 As root, on Linux. A walk is a script of N events in a network namespace and with users of its own.
-In turn it is of the mixes `lively`, `cramped` and `curious` of tools/walks, and one of its own,
-`cycles`, whose messages all have descriptors, mostly of sockets. Compared are, event by event:
+In turn it is of the mixes `lively`, `cramped`, `curious` and `shut` of tools/walks, and one of its
+own, `cycles`, whose messages all have descriptors, mostly of sockets. Compared are, event by event:
 
 - the reply
 - which file each open descriptor of the process refers to
@@ -50,10 +50,10 @@ from plain_engine import Engine, Event  # noqa: E402
 LOADER = SourceFileLoader("walks", f"{ROOT}/tools/walks")
 WALKS = module_from_spec(spec_from_loader("walks", LOADER))
 LOADER.exec_module(WALKS)
-MIXES = "lively", "cramped", "curious", "cycles"
+MIXES = "lively", "cramped", "curious", "cycles", "shut"
 # The kinds of events of the last mix.
 CYCLING = "spawn fork exit open dup dup2 socket recv peek" + " pair close close send send" * 4
-CYCLING += " send send" + " meet" * 4
+CYCLING += " send send shutdown" + " meet" * 4
 # The users of a walk, far from those of the machine, and how many numbers each run and walk has.
 FIRST_USER, OF_RUN, OF_WALK, USERS = 10**9, 10**6, 10**4, 16
 # How many faults are shown, and how wide. Linux may keep garbage in two walks, and in one more for
@@ -73,7 +73,7 @@ class Task(NamedTuple):
 def drawn(task: Task) -> Script:
     """Events as tools/walks draws them."""
     is_cycling = task.mix == "cycles"
-    mix = WALKS.MIXES["lively" if is_cycling else task.mix]
+    mix = WALKS.MIXES["shut" if is_cycling else task.mix]
     mix = mix._replace(kinds=CYCLING) if is_cycling else mix
 
     def script(engine: Engine) -> Iterator[Event]:
