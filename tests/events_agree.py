@@ -31,7 +31,7 @@ from event_list import LIST, Row, Unreadable, events, table, text_of, verb_of  #
 # The calls of the engine that do an event of another name.
 TWINS = {"send_owned": "send"}
 # C tests this before all else: there a type is a number, and an invalid one makes no event.
-FIRST_IN_C = {"pair": ["EINVAL"], "socket": ["EINVAL"]}
+FIRST_IN_C = {"pair": ["EINVAL"], "socket": ["EINVAL"], "shutdown": ["EINVAL"]}
 # The calls from C that have an error and are no events.
 NO_EVENTS_OF_C = {"engine_new", "check", "next_fd", "poll", "graph", "tell_released", "tell_changed"}
 # The relations of the definition that say how the collector's events are refused.

@@ -7,9 +7,9 @@ socket. Some 100,000 seeded events are played, begins and slices of passes among
 
 After every other event, drawn by the seed, the two lists are compared. `jw_released` has each file that the plain
 engine freed since the lists were emptied last, once, and no other. `jw_changed` has each live socket that an event made
-or changed since then, by its state, peer, messages or embryos, once, and no other. A socket that was live then and is
-live now, is not in `jw_changed`, and whose peer is not, is ready for what it was then. The lists are emptied at random
-moments.
+or changed since then, by its state, peer, closed ends, messages or embryos, and each that a shutdown was of, or of its
+peer, once, and no other. A socket that was live then and is live now, is not in `jw_changed`, and whose peer is not, is
+ready for what it was then. The lists are emptied at random moments.
 
 It prints the first differences. The status is 0 where there is none and both lists had something, and else 1. The
 library is built from out/libjaywardrobe.a, as tests/embedding.sh does.
@@ -38,11 +38,12 @@ LOADER.exec_module(walks)
 with open(f"{ROOT}/include/jaywardrobe.h", encoding="utf-8") as header:
     ERRORS = {int(number): name for name, number in re.findall(r"JW_(E\w+) = (\d+)", header.read())}
 TYPES = {"stream": 1, "seqpacket": 2}
+HOW = {"read": 0, "write": 1, "both": 2}
 # The answer of a call that was done, by its name.
 OPENS = {"open", "dup", "dup2", "socket", "accept"}
 STARTS = {"spawn", "fork"}
 # How many walks of each mix, and how many differences are shown.
-WALKS = {"lively": 14, "cramped": 14, "curious": 14, "slices": 160}
+WALKS = {"lively": 14, "cramped": 14, "curious": 14, "shut": 14, "slices": 160}
 MOST = 5
 # Within how many events the lists are asked for; of how many events one is followed by a look at the lists, and of how
 # many looks one by a call that empties them.
@@ -139,6 +140,10 @@ class Library:
 
     def by_name(self, verb: str, pid, on: int, name: str) -> str:
         self.call(verb, pid, ctypes.c_uint32(on), name.encode(), ctypes.c_size_t(len(name)))
+        return "ok"
+
+    def do_shutdown(self, pid, on: int, how: str) -> str:
+        self.call("shutdown", pid, ctypes.c_uint32(on), ctypes.c_uint32(HOW[how]))
         return "ok"
 
     def do_send(self, pid, on: int, data: bytes, *fds: int) -> str:
@@ -255,21 +260,24 @@ def compare_views(library: Library, engine):
 
 
 class Socket(NamedTuple):
-    """A socket of the plain engine: what it is connected to, and what waits at it."""
+    """A socket of the plain engine: what it is connected to, which ends are closed, and what waits at it."""
 
     state: str
     peer: int
+    no_input: bool
+    no_output: bool
     messages: Tuple[Message, ...]
     embryos: Tuple[Embryo, ...]
 
 
+def socket_of(engine, file) -> Socket:
+    waits = engine.queued(file.ino), engine.waiting(file.ino)
+    return Socket(file.state, file.peer, file.no_input, file.no_output, *map(tuple, waits))
+
+
 def sockets_of(engine) -> Dict[int, Socket]:
     """The live sockets by their numbers."""
-    return {
-        it.ino: Socket(it.state, it.peer, tuple(engine.queued(it.ino)), tuple(engine.waiting(it.ino)))
-        for it in engine.files
-        if it.kind != "plain"
-    }
+    return {it.ino: socket_of(engine, it) for it in engine.files if it.kind != "plain"}
 
 
 class Looks(NamedTuple):
@@ -297,7 +305,7 @@ class Told:
         self.next_ino = 1
         # The readiness of each socket before.
         self.ready: Dict[int, Tuple[bool, bool, bool]] = {}
-        # The sockets behind the last event, and those that an event made or changed since then.
+        # The sockets behind the last event, and those that an event made, changed or shut since then.
         self.sockets: Dict[int, Socket] = {}
         self.touched: Set[int] = set()
 
@@ -312,8 +320,11 @@ class Told:
         self.ready = {it.ino: engine.ready(it) for it in engine.files if it.kind != "plain"}
         self.touched = set()
 
-    def after_event(self, engine):
+    def after_event(self, engine, event: Event, reply: str):
         """Looks at the lists after some events, and empties them after some looks."""
+        if event.verb == "shutdown" and reply == "ok":
+            ino = engine.numbers[event.pid, event.values[0]]
+            self.touched.update((ino, engine.file(ino).peer))
         before, self.sockets = self.sockets, sockets_of(engine)
         self.touched.update(ino for ino, it in self.sockets.items() if before.get(ino) != it)
         if not self.is_told:
@@ -346,10 +357,10 @@ class Told:
         self.looks = self.looks.with_more(Looks(1, len(released), len(changed), len(compared)))
 
 
-def events_of(name: str, seed: str) -> Iterator[Event]:
-    """The events of a walk. Those of a mix without slices are drawn by the plain engine's replies."""
-    mix = walks.MIXES[name]
-    if name == walks.SLICES:
+def events_of(name: str, number: int) -> Iterator[Event]:
+    """The events of a walk. Those of one without slices are drawn by the plain engine's replies."""
+    mix, seed = walks.MIXES[name], f"{name} from C {number}"
+    if walks.is_sliced(name, number):
         yield from islice(walks.sliced_events(mix, seed), walks.SLICED)
         return
     source, engine = walks.Source(mix, seed), walks.Engine()
@@ -372,7 +383,7 @@ def played(task: Tuple[str, str, int]) -> Tuple[int, str, Looks]:
     path, name, number = task
     library, plain, count = Library(path), walks.Sliced(), 0
     lists = Told(library, f"{name} told {number}")
-    for event in events_of(name, f"{name} from C {number}"):
+    for event in events_of(name, number):
         count += 1
         told = library.step(event)
         wanted = plain.slice(event, told, library.rows()) if event.verb == "slice" else plain.other(from_c(event))
@@ -380,7 +391,7 @@ def played(task: Tuple[str, str, int]) -> Tuple[int, str, Looks]:
             if told != wanted:
                 raise Difference(f"{told[:80]!r}, and not {wanted[:80]!r}")
             compare_views(library, plain.engine)
-            lists.after_event(plain.engine)
+            lists.after_event(plain.engine, event, told)
         except Difference as it:
             return count, f"{name}, seed {number}, event {count}: {event.line()[:80]}: {it}", lists.looks
     library.free()
