@@ -122,6 +122,7 @@ def command_lines(program: Program) -> Iterator[Check]:
         ("run --help", b"version 2"),
         ("run --help", b"P peek N N N"),
         ("run --help", b"P limit N"),
+        ("run --help", b"P shutdown N HOW"),
         ("--help", b"scmgc bench"),
         (race(steps=20_001), b"more than 20000 steps need --checkpoint"),
     ]:
@@ -149,6 +150,9 @@ begin
 slice 1
 1 peek 4 9 4
 1 recv 4 9 4
+1 shutdown 3 read
+1 shutdown 3 write
+1 shutdown 4 both
 1 close 0
 1 socket stream
 1 bind 0 hub
@@ -163,7 +167,7 @@ pass
 """
 # A log has room for 1,048,576 entries. The start of a seat takes one, so the first form fills a log.
 CALLS = ["layer 1 1048575 3", "layer 64 500 3", "batches 1 1048560 3", "shared 4 2000 3", "engine 10 3", "lock 10 3"]
-BENCHMARKS = [("script 1 4 3", SHORT), ("script 1 7 3", EACH_EVENT), *((it, b"") for it in CALLS)]
+BENCHMARKS = [("script 1 4 3", SHORT), ("script 1 8 3", EACH_EVENT), *((it, b"") for it in CALLS)]
 # The last call finds no room for its entry.
 REFUSED = [("script 1 1 1", b"spawn 1000 16\n1 close 0\n"), ("layer 1 1048576 1", b""), ("batches 1 1048576 1", b"")]
 
