@@ -5,13 +5,15 @@ use Rattle.std.specs.Str.{bytes_eq}
 use Rattle.std.specs.Cmp.Derive.{both_true}
 use Rattle.std.proofs.lemmas.Bool.{false≢true}
 use Rattle.std.proofs.lemmas.Option.{same_Some}
+use Rattle.af_base.specs.declared.events.Shutdown.{Shutdown}
+use Rattle.af_base.specs.declared.events.Shutdown.TheVariants as shutdown
 use Rattle.af_base.specs.declared.events.SockType.{SockType}
 use Rattle.af_base.specs.declared.events.SockType.TheVariants.{Seqpacket, Stream}
 use Rattle.scm_lines.specs.Words.{all_printable, at_end}
 use Rattle.scm_lines.specs.Attached.{attached_of}
-use Rattle.scm_lines.specs.Keywords.{meaning, privilege_of, type_of, types, version_of, versions}
-use Rattle.scm_lines.specs.Spelling.{IsPrivilege, IsVersion, type_name}
-use Rattle.scm_lines.specs.Forms.{Form, FormRow, Kind, SaysForm, SaysRow, SaysWord, Value, end, items, name, row_named, number, payload, privilege, read_by, read_form, sockets, value_in, version, word_value, ◌◂◌}
+use Rattle.scm_lines.specs.Keywords.{how_of, hows, meaning, privilege_of, type_of, types, version_of, versions}
+use Rattle.scm_lines.specs.Spelling.{IsPrivilege, IsVersion, how_name, type_name}
+use Rattle.scm_lines.specs.Forms.{Form, FormRow, Kind, SaysForm, SaysRow, SaysWord, Value, end, how, items, name, row_named, number, payload, privilege, read_by, read_form, sockets, value_in, version, word_value, ◌◂◌}
 use Rattle.scm_lines.specs.declared.version.Version.{Version}
 use Rattle.scm_lines.specs.declared.version.Version.TheVariants as kinds
 use Rattle.af_base.proofs.DerivedEquality.{both}
@@ -19,7 +21,7 @@ use Rattle.scm_lines.proofs.Choices.{allowed, bound, chosen, ended, guarded, map
 use Rattle.scm_lines.proofs.NumberLemmas.{number_read, number_said}
 use Rattle.scm_lines.proofs.PayloadSays.{payload_read, payload_said}
 use Rattle.scm_lines.proofs.AttachedSays.{attached_read, attached_said}
-use Rattle.scm_lines.proofs.WordsPrintable.{items_printable, number_printable, payload_printable, type_printable, words_printable}
+use Rattle.scm_lines.proofs.WordsPrintable.{how_printable, items_printable, number_printable, payload_printable, type_printable, words_printable}
 
 -- ---- words
 
@@ -48,6 +50,16 @@ type_read : (kind : SockType) → type_of (type_name kind) ≡ Some kind
 type_read Stream = refl
 type_read Seqpacket = refl
 
+-- Ends that are read are spelt by their name.
+how_said : (word : List ℕ) (ends : Shutdown) → how_of word ≡ Some ends → word ≡ how_name ends
+how_said = meaning_said (λ word ends. word ≡ how_name ends) hows (refl, (refl, (refl, tt)))
+
+-- The name of ends is read as those ends.
+how_read : (ends : Shutdown) → how_of (how_name ends) ≡ Some ends
+how_read shutdown.Read = refl
+how_read shutdown.Write = refl
+how_read shutdown.Both = refl
+
 -- A version that is read is named by its word.
 version_said : (word : List ℕ) (v : Version) → version_of word ≡ Some v → IsVersion word v
 version_said = meaning_said IsVersion versions (refl, (refl, tt))
@@ -72,6 +84,7 @@ word_said number word v e = number_said word v e
 word_said sockets word v e = type_said word v e
 word_said name word v e = guarded (all_printable word) word v e
 word_said payload word v e = payload_said word v e
+word_said how word v e = how_said word v e
 word_said version word v e = version_said word v e
 
 -- A word that the table has for a value is read so.
@@ -80,6 +93,7 @@ word_read number word v says = number_read word v says
 word_read sockets word v says = rw says (type_read v)
 word_read name word v (printable, is) = rw printable (ap Some is)
 word_read payload word v says = payload_read word v says
+word_read how word v says = rw says (how_read v)
 word_read version word v says = version_read word v says
 
 -- A word of the table is printable.
@@ -88,6 +102,7 @@ word_printable number word v says = number_printable word v says
 word_printable sockets word v says = rw says (type_printable v)
 word_printable name word v (printable, is) = printable
 word_printable payload word v says = payload_printable word v says
+word_printable how word v says = rw says (how_printable v)
 word_printable version word v says = version_printable word v says
 
 -- ---- priv

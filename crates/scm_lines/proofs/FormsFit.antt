@@ -6,7 +6,7 @@ use Rattle.scm_lines.specs.Words.{all_printable, at_end, no_words, ◌>>=◌}
 use Rattle.scm_lines.specs.Attached.{attached_of}
 use Rattle.scm_lines.specs.Keywords.{privilege_of}
 use Rattle.scm_lines.specs.Fitting.{fits_word, fits_words}
-use Rattle.scm_lines.specs.Forms.{Form, Kind, Value, end, items, line_row, name, number, payload, privilege, read_form, sockets, verb_row, version, word_value, ◌◂◌}
+use Rattle.scm_lines.specs.Forms.{Form, Kind, Value, end, how, items, line_row, name, number, payload, privilege, read_form, sockets, verb_row, version, word_value, ◌◂◌}
 use Rattle.scm_lines.specs.declared.explain.Last.{Last}
 use Rattle.scm_lines.specs.declared.explain.Last.TheVariants as last
 use Rattle.scm_lines.specs.declared.explain.Wanted.{Wanted}
@@ -24,6 +24,7 @@ kind_of wanted.Number = number
 kind_of wanted.Type = sockets
 kind_of wanted.Name = name
 kind_of wanted.Bytes = payload
+kind_of wanted.How = how
 kind_of wanted.Version = version
 
 -- The form has the words that are wanted.
@@ -44,6 +45,7 @@ word_fits wanted.Name word = by (all_printable word)
     by true = refl
     by false = refl
 word_fits wanted.Bytes word = refl
+word_fits wanted.How word = refl
 word_fits wanted.Version word = refl
 
 -- An option is none exactly if it has no value.
@@ -101,6 +103,7 @@ step_words verb.Bind = (wanted.Number ∷ wanted.Name ∷ [], last.Nothing)
 step_words verb.Listen = (wanted.Number ∷ wanted.Number ∷ [], last.Nothing)
 step_words verb.Peek = (wanted.Number ∷ wanted.Number ∷ wanted.Number ∷ [], last.Nothing)
 step_words verb.Limit = (wanted.Number ∷ [], last.Nothing)
+step_words verb.Shutdown = (wanted.Number ∷ wanted.How ∷ [], last.Nothing)
 
 -- The form of a step has the words that are wanted of it.
 step_has : (v : Verb) → HasWords (verb_row v).1 (step_words v).0 (step_words v).1
@@ -120,6 +123,7 @@ step_has verb.Bind = (refl, λ on. (refl, λ text. tt))
 step_has verb.Listen = (refl, λ on. (refl, λ backlog. tt))
 step_has verb.Peek = (refl, λ on. (refl, λ max_bytes. (refl, λ max_fds. tt)))
 step_has verb.Limit = (refl, λ nofile. tt)
+step_has verb.Shutdown = (refl, λ on. (refl, λ ends. tt))
 
 -- So words that do not fit are read as no step.
 pub step_fits : (v : Verb) (words : List (List ℕ)) → not (fits_words (step_words v).0 (step_words v).1 words) ≡ is_none (read_form (verb_row v).1 words)

@@ -74,6 +74,7 @@ verb_makes v verb.Bind = λ on text. refl
 verb_makes v verb.Listen = λ on backlog. refl
 verb_makes v verb.Peek = λ on max_bytes max_fds. refl
 verb_makes v verb.Limit = λ nofile. refl
+verb_makes v verb.Shutdown = λ on ends. refl
 
 -- No word behind the process's number says no step.
 pub step_in_none : (v : Version) → true ≡ is_none (step_in v [])

@@ -1,14 +1,16 @@
--- Numbers, the bytes of a message, items and names of types are words of printable bytes.
+-- Numbers, the bytes of a message, items and names of types and of ends are words of printable bytes.
 use Rattle.std.proofs.Common.{◌≡◌, ℕ, ◌≤◌, ◌==◌, ◌&&◌, ◌||◌, List, [], ◌∷◌, ◌++◌, Bool, true, false, cond, nat_le, Some, refl, sym, ap, ◌∙◌, inl, inr, arith}
 use Rattle.std.specs.Cmp.Derive.{both_true}
 use Rattle.std.proofs.Math.Bool.{and_assoc}
 use Rattle.std.proofs.lemmas.Grind.{common_steps}
+use Rattle.af_base.specs.declared.events.Shutdown.{Shutdown}
+use Rattle.af_base.specs.declared.events.Shutdown.TheVariants as shutdown
 use Rattle.af_base.specs.declared.events.SockType.{SockType}
 use Rattle.af_base.specs.declared.events.SockType.TheVariants.{Seqpacket, Stream}
 use Rattle.scm_lines.specs.Words.{all_printable, ends_word, is_blank, onto_word, words_of}
 use Rattle.scm_lines.specs.Numbers.{all_digits, is_digit}
 use Rattle.scm_lines.specs.Payload.{hex_value, is_plain}
-use Rattle.scm_lines.specs.Spelling.{AreItems, IsItem, IsNumber, IsPayload, Spells, type_name}
+use Rattle.scm_lines.specs.Spelling.{AreItems, IsItem, IsNumber, IsPayload, Spells, how_name, type_name}
 use Rattle.af_base.proofs.DerivedEquality.{both}
 use Rattle.scm_lines.proofs.Choices.{chosen, guarded}
 use Rattle.scm_lines.proofs.NumberLemmas.{number_digits}
@@ -117,3 +119,9 @@ items_printable (word ∷ words) fds (first, others, (item, items, e)) =
 pub type_printable : (kind : SockType) → all_printable (type_name kind) ≡ true
 type_printable Stream = refl
 type_printable Seqpacket = refl
+
+-- So is the name of ends.
+pub how_printable : (ends : Shutdown) → all_printable (how_name ends) ≡ true
+how_printable shutdown.Read = refl
+how_printable shutdown.Write = refl
+how_printable shutdown.Both = refl

@@ -5,7 +5,7 @@ use Rattle.scm_lines.specs.Words.{all_printable, no_words}
 use Rattle.scm_lines.specs.Numbers.{all_digits, word_number}
 use Rattle.scm_lines.specs.Payload.{payload_of}
 use Rattle.scm_lines.specs.Attached.{attached_of}
-use Rattle.scm_lines.specs.Keywords.{privilege_of, type_of, version_of}
+use Rattle.scm_lines.specs.Keywords.{how_of, privilege_of, type_of, version_of}
 use Rattle.scm_lines.specs.Meaning.{form_of, step_of, ◌>>=◌}
 use Rattle.scm_lines.specs.Versions.{has_line, has_step, is_unknown, number_of}
 use Rattle.scm_lines.specs.declared.line.Line.{Line}
@@ -38,6 +38,7 @@ fits_word wanted.Number word = is_some (word_number word)
 fits_word wanted.Type word = is_some (type_of word)
 fits_word wanted.Name word = all_printable word
 fits_word wanted.Bytes word = is_some (payload_of word)
+fits_word wanted.How word = is_some (how_of word)
 fits_word wanted.Version word = is_some (version_of word)
 
 -- The last words are what is wanted.
@@ -56,6 +57,7 @@ fits_words (first ∷ others) end (word ∷ words) = fits_word first word && fit
 abbrev pub first_number_of_verb : Verb → ℕ
 first_number_of_verb verb.Peek = 2
 first_number_of_verb verb.Limit = 2
+first_number_of_verb verb.Shutdown = 3
 first_number_of_verb other = 1
 
 -- Events with this verb can come now.

@@ -2,6 +2,7 @@
 use Rattle.std.specs.Prelude.{◌≡◌, ℕ, List, [], ◌∷◌, Bool, true, find, if◌then◌else◌, Option, Some, None, codes}
 use Rattle.std.specs.Option.{option_map}
 use Rattle.std.specs.Str.{bytes_eq}
+use Rattle.af_base.specs.declared.events.Shutdown.{Shutdown}
 use Rattle.af_base.specs.declared.events.SockType.{SockType}
 use Rattle.af_base.specs.declared.events.Step.{Step}
 use Rattle.af_base.specs.declared.events.Step.TheVariants as step
@@ -10,8 +11,8 @@ use Rattle.scm_lines.specs.Words.{all_printable, at_end, word_as, ◌>>=◌}
 use Rattle.scm_lines.specs.Numbers.{word_number}
 use Rattle.scm_lines.specs.Payload.{payload_of}
 use Rattle.scm_lines.specs.Attached.{attached_of}
-use Rattle.scm_lines.specs.Keywords.{privilege_of, type_of, version_of}
-use Rattle.scm_lines.specs.Spelling.{IsAttached, IsNumber, IsPayload, IsPrivilege, IsVersion, type_name}
+use Rattle.scm_lines.specs.Keywords.{how_of, privilege_of, type_of, version_of}
+use Rattle.scm_lines.specs.Spelling.{IsAttached, IsNumber, IsPayload, IsPrivilege, IsVersion, how_name, type_name}
 use Rattle.scm_lines.specs.declared.keywords.Keyword.{Keyword}
 use Rattle.scm_lines.specs.declared.keywords.Keyword.TheVariants as keyword
 use Rattle.scm_lines.specs.declared.keywords.Verb.{Verb}
@@ -23,9 +24,10 @@ use Rattle.scm_lines.specs.declared.version.Version.{Version}
 
 -- ---- words
 
--- The kinds of a word: a number, a type of sockets, a name, the bytes of a message, or a version.
+-- The kinds of a word: a number, a type of sockets, a name, the bytes of a message, the ends to
+-- close, or a version.
 pub data Kind : Type 0 where
-  number sockets name payload version : Kind
+  number sockets name payload how version : Kind
 
 -- The value of a word of this kind.
 abbrev pub Value : Kind → Type 0
@@ -33,6 +35,7 @@ Value number = ℕ
 Value sockets = SockType
 Value name = List ℕ
 Value payload = List ℕ
+Value how = Shutdown
 Value version = Version
 
 -- The word says this.
@@ -41,6 +44,7 @@ SaysWord number word n = IsNumber word n
 SaysWord sockets word kind = word ≡ type_name kind
 SaysWord name word text = (all_printable word ≡ true) × (word ≡ text)
 SaysWord payload word bytes = IsPayload word bytes
+SaysWord how word ends = word ≡ how_name ends
 SaysWord version word named = IsVersion word named
 
 -- The reading of a word.
@@ -49,6 +53,7 @@ word_value number word = word_number word
 word_value sockets word = type_of word
 word_value name word = if all_printable word then Some word else None
 word_value payload word = payload_of word
+word_value how word = how_of word
 word_value version word = version_of word
 
 -- The reading of the first word, and the words after it.
@@ -115,6 +120,8 @@ verb_row verb.Peek = (
   number ◂ λ on. number ◂ λ max_bytes. number ◂ λ max_fds. end (step.Peek on max_bytes max_fds),
 )
 verb_row verb.Limit = (codes "limit", number ◂ λ nofile. end (step.Limit nofile))
+verb_row verb.Shutdown =
+    (codes "shutdown", number ◂ λ on. how ◂ λ ends. end (step.Shutdown on ends))
 
 -- The row of a keyword: the meaning of a line without a process's number.
 abbrev pub line_row : Keyword → FormRow Line
@@ -136,7 +143,7 @@ abbrev pub verbs : List Verb
 verbs =
     verb.Send ∷ verb.Recv ∷ verb.Open ∷ verb.Close ∷ verb.Dup ∷ verb.Dup2
     ∷ verb.Connect ∷ verb.Accept ∷ verb.Socket ∷ verb.Pair ∷ verb.Fork ∷ verb.Exit
-    ∷ verb.Bind ∷ verb.Listen ∷ verb.Peek ∷ verb.Limit ∷ []
+    ∷ verb.Bind ∷ verb.Listen ∷ verb.Peek ∷ verb.Limit ∷ verb.Shutdown ∷ []
 
 -- All keywords.
 abbrev pub keywords : List Keyword

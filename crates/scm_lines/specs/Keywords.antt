@@ -2,6 +2,8 @@
 use Rattle.std.specs.Prelude.{ℕ, List, [], ◌∷◌, find, if◌then◌else◌, Bool, true, false, Option, Some, None, codes}
 use Rattle.std.specs.Option.{option_map}
 use Rattle.std.specs.Str.{bytes_eq}
+use Rattle.af_base.specs.declared.events.Shutdown.{Shutdown}
+use Rattle.af_base.specs.declared.events.Shutdown.TheVariants as how
 use Rattle.af_base.specs.declared.events.SockType.{SockType}
 use Rattle.af_base.specs.declared.events.SockType.TheVariants.{Seqpacket, Stream}
 use Rattle.scm_lines.specs.Words.{at_end}
@@ -19,6 +21,14 @@ types = (codes "stream", Stream) ∷ (codes "seqpacket", Seqpacket) ∷ []
 -- The type of sockets that a word names.
 abbrev pub type_of : List ℕ → Option SockType
 type_of word = meaning types word
+
+-- The ends that shutdown(2) closes, each with its word.
+abbrev pub hows : List (List ℕ × Shutdown)
+hows = (codes "read", how.Read) ∷ (codes "write", how.Write) ∷ (codes "both", how.Both) ∷ []
+
+-- The ends that a word names.
+abbrev pub how_of : List ℕ → Option Shutdown
+how_of word = meaning hows word
 
 -- The versions that a script can name, each with its word.
 abbrev pub versions : List (List ℕ × Version)

@@ -1,7 +1,9 @@
--- The spelling of words of a line: numbers, the bytes of a message, items, and names of types. This
--- project's profile.
+-- The spelling of words of a line: numbers, the bytes of a message, items, and names of types and of
+-- ends. This project's profile.
 use Rattle.std.specs.Prelude.{◌≡◌, ◌≤◌, ◌<◌, ◌⊎◌, ℕ, ◌+◌, ◌*◌, ◌^◌, List, [], ◌∷◌, ◌++◌, length, replicate, Bool, true, false, codes, Some}
 use Rattle.std.specs.Fmt.{decimal}
+use Rattle.af_base.specs.declared.events.Shutdown.{Shutdown}
+use Rattle.af_base.specs.declared.events.Shutdown.TheVariants as how
 use Rattle.af_base.specs.declared.events.SockType.{SockType}
 use Rattle.af_base.specs.declared.events.SockType.TheVariants.{Seqpacket, Stream}
 use Rattle.scm_lines.specs.Payload.{hex_value, is_plain}
@@ -54,6 +56,12 @@ IsAttached words fds = (length fds ≤ 1024) × AreItems words fds
 abbrev pub type_name : SockType → List ℕ
 type_name Stream = codes "stream"
 type_name Seqpacket = codes "seqpacket"
+
+-- The name of the ends that shutdown(2) closes.
+abbrev pub how_name : Shutdown → List ℕ
+how_name how.Read = codes "read"
+how_name how.Write = codes "write"
+how_name how.Both = codes "both"
 
 -- priv alone where a privilege is granted, and no word where none is.
 abbrev pub IsPrivilege : List (List ℕ) → Bool → Type 0

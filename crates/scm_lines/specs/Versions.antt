@@ -26,6 +26,7 @@ number_of version.Third = 3
 abbrev pub first_number_of : Step → ℕ
 first_number_of (step.Peek on max_bytes max_fds) = 2
 first_number_of (step.Limit nofile) = 2
+first_number_of (step.Shutdown on how) = 3
 first_number_of other = 1
 
 -- The script has the step: its version is the first that has it, or a later one.

@@ -13,12 +13,12 @@ ghost use Rattle.scm_lines.specs.declared.reason.Reason.TheVariants as reason;
 use crate::keywords::{Keyword, Verb, keyword_named, verb_named};
 use crate::line::{MAX_LINE, begins_comment};
 use crate::misfit::{
-    Misfit, first_unprintable, number_misfit, why_attached, why_number, why_payload, why_type,
-    why_version,
+    Misfit, first_unprintable, number_misfit, why_attached, why_how, why_number, why_payload,
+    why_type, why_version,
 };
 use crate::numbers::number;
 use crate::reason::{Reason, Unreadable};
-use crate::version::{Version, has_verb};
+use crate::version::{Version, first_number_of_verb, has_verb};
 use crate::words::first_word;
 
 /// The kind that a word has to be.
@@ -28,6 +28,7 @@ enum Wanted {
     Type,
     Name,
     Bytes,
+    How,
     Version,
 }
 
@@ -52,6 +53,7 @@ fn why_word(wanted: Wanted, word: &[u8]) -> Option<Misfit>
         Wanted::Type => why_type(word),
         Wanted::Name => first_unprintable(word),
         Wanted::Bytes => why_payload(word),
+        Wanted::How => why_how(word),
         Wanted::Version => why_version(word),
     }
 }
@@ -121,7 +123,7 @@ fn why_step(verb: Verb, bytes: &[u8]) -> Option<Misfit>
     ensures exact { is_some result ≡ is_none (read_form (verb_row verb).1 (words_of bytes.now)) }
     ensures within { IfSome result (λ m. m.left ≤ length bytes.now) }
 {
-    use Wanted::{Bytes, Name, Number, Type};
+    use Wanted::{Bytes, How, Name, Number, Type};
     match verb {
         Verb::Open | Verb::Fork | Verb::Exit => why_words(&[], Last::Nothing, bytes),
         Verb::Dup | Verb::Close | Verb::Accept | Verb::Limit => {
@@ -132,6 +134,17 @@ fn why_step(verb: Verb, bytes: &[u8]) -> Option<Misfit>
         Verb::Bind | Verb::Connect => why_words(&[Number, Name], Last::Nothing, bytes),
         Verb::Send => why_words(&[Number, Bytes], Last::Items, bytes),
         Verb::Recv | Verb::Peek => { why_words(&[Number, Number, Number], Last::Nothing, bytes) }
+        Verb::Shutdown => why_words(&[Number, How], Last::Nothing, bytes),
+    }
+}
+
+/// Makes the misfit of a verb that only a later version has.
+fn late_verb(verb: Verb, word: &[u8]) -> Misfit
+    ensures { result.left ≡ length word.now }
+{
+    match first_number_of_verb(verb) {
+        3 => Misfit::at(Reason::NeedsVersion3, word),
+        _ => Misfit::at(Reason::NeedsVersion2, word),
     }
 }
 
@@ -151,7 +164,7 @@ fn why_process(version: Version, bytes: &[u8]) -> Option<Misfit>
     if misfit.is_some() || has_verb(version, verb) {
         return misfit;
     }
-    Some(Misfit::at(Reason::NeedsVersion2, word).before(rest))
+    Some(late_verb(verb, word).before(rest))
 }
 
 /// Returns why the words behind `keyword` are not of its form; `None` if they are.

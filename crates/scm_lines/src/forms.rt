@@ -9,8 +9,8 @@ ghost use Rattle.std.specs.Option.{option_map};
 ghost use Rattle.scm_lines.specs.Fault.{Reads};
 ghost use Rattle.scm_lines.specs.Words.{word_in, words_of};
 ghost use Rattle.scm_lines.specs.Keywords.{privilege_of};
-ghost use Rattle.scm_lines.specs.Forms.{line_row, name, number, read_form, sockets, verb_row};
-ghost use Rattle.scm_lines.specs.Forms.{value_in, version, word_value};
+ghost use Rattle.scm_lines.specs.Forms.{how, line_row, name, number, read_form, sockets};
+ghost use Rattle.scm_lines.specs.Forms.{value_in, verb_row, version, word_value};
 ghost use Rattle.scm_lines.specs.Meaning.{form_of, step_of, step_takes_memory, takes_memory};
 ghost use Rattle.scm_lines.specs.declared.fault.LineFault.TheVariants as fault;
 ghost use Rattle.scm_lines.specs.declared.keywords.Keyword.TheVariants as keyword;
@@ -19,12 +19,14 @@ ghost use Rattle.scm_lines.specs.declared.line.Line.TheVariants as line;
 
 use crate::attached::{Descriptors, attached};
 use crate::fault::LineFault;
-use crate::keywords::{Keyword, Verb, keyword_named, type_named, verb_named, version_named};
+use crate::keywords::{
+    Keyword, Verb, how_named, keyword_named, type_named, verb_named, version_named,
+};
 use crate::line::{Line, Report};
 use crate::numbers::{number, number_in};
 use crate::payload::payload;
 use crate::words::{all_printable, first_word, is_end};
-use af_base::events::{Event, SockType, Step};
+use af_base::events::{Event, Shutdown, SockType, Step};
 use af_base::ids::{Fd, Pid, Uid};
 use af_base::items::{Bytes, Items};
 use smallvec::SmallVec;
@@ -49,6 +51,15 @@ fn name_in(bytes: &[u8]) -> Option<(&[u8], &[u8])>
 {
     let (word, rest) = first_word(bytes)?;
     all_printable(word).then_some((word, rest))
+}
+
+/// Reads which ends to close, and returns the bytes after it.
+fn how_in(bytes: &[u8]) -> Option<(Shutdown, &[u8])>
+    ensures { option_map (λ found. (found.0, words_of found.1.now)) result
+        ≡ value_in how (words_of bytes.now) }
+{
+    let (word, rest) = first_word(bytes)?;
+    Some((how_named(word)?, rest))
 }
 
 /// Returns `true` if `priv` is the only word left, and `false` if none is.
@@ -203,6 +214,17 @@ pub fn limit(rest: &[u8]) -> Option<u32>
     is_end(rest).then_some(nofile)
 }
 
+/// Reads `P shutdown N HOW`.
+#[inline(always)]
+pub fn shutdown(rest: &[u8]) -> Option<(Fd, Shutdown)>
+    ensures { option_map (λ found. step.Shutdown found.0 found.1) result
+        ≡ read_form (verb_row verb.Shutdown).1 (words_of rest.now) }
+{
+    let (on, rest) = number_in(rest)?;
+    let (how, rest) = how_in(rest)?;
+    is_end(rest).then_some((Fd(on), how))
+}
+
 // ---- a step as a value
 
 /// Reads the step `bind`, and copies the name.
@@ -283,6 +305,7 @@ fn step(alloc: Global, verb: Verb, rest: &[u8]) -> Result<Step, LineFault>
         Verb::Recv => recv_step(rest),
         Verb::Peek => peek_step(rest),
         Verb::Limit => limit(rest).map(Step::Limit),
+        Verb::Shutdown => shutdown(rest).map(|(on, how)| Step::Shutdown { on, how }),
     };
     read.ok_or(LineFault::Unreadable)
 }

@@ -1,10 +1,10 @@
 //! The words that say which form a line has.
 ghost use Rattle.std.specs.Prelude.{◌≡◌, ◌++◌, IfSome, map};
-ghost use Rattle.scm_lines.specs.Keywords.{meaning, type_of, version_of};
+ghost use Rattle.scm_lines.specs.Keywords.{how_of, meaning, type_of, version_of};
 ghost use Rattle.scm_lines.specs.Forms.{keywords, line_row, row_named, verb_row, verbs};
 
 use crate::version::Version;
-use af_base::events::SockType;
+use af_base::events::{Shutdown, SockType};
 
 /// The first word of a line that does not begin with a process's number.
 #[derive(Clone, Copy, PartialEq, Eq)]
@@ -62,6 +62,8 @@ pub enum Verb {
     Peek,
     /// `limit`, of version 2
     Limit,
+    /// `shutdown`, of version 3
+    Shutdown,
 }
 
 /// Each keyword, with its word.
@@ -80,6 +82,13 @@ const KEYWORDS: [(&[u8], Keyword); 8] = [
 const TYPES: [(&[u8], SockType); 2] = [
     (b"stream", SockType::Stream),
     (b"seqpacket", SockType::Seqpacket),
+];
+
+/// Which ends shutdown(2) closes, each with its word.
+const HOWS: [(&[u8], Shutdown); 3] = [
+    (b"read", Shutdown::Read),
+    (b"write", Shutdown::Write),
+    (b"both", Shutdown::Both),
 ];
 
 /// Each version that a script can name, with its word.
@@ -142,6 +151,7 @@ pub fn verb_named(word: &[u8]) -> Option<Verb>
         b"listen" => Verb::Listen,
         b"peek" => Verb::Peek,
         b"limit" => Verb::Limit,
+        b"shutdown" => Verb::Shutdown,
         _ => return None,
     })
 }
@@ -151,6 +161,13 @@ pub fn type_named(word: &[u8]) -> Option<SockType>
     ensures { result ≡ type_of word.now }
 {
     meaning(&TYPES, word)
+}
+
+/// Returns the ends that a word says to close.
+pub fn how_named(word: &[u8]) -> Option<Shutdown>
+    ensures { result ≡ how_of word.now }
+{
+    meaning(&HOWS, word)
 }
 
 /// Returns the version that a word names.

@@ -3,14 +3,14 @@ ghost use Rattle.std.specs.Prelude.{◌≡◌, ◌≤◌, ◌<◌, ◌+◌, ◌-
 ghost use Rattle.std.specs.Prelude.{Some, is_none, is_some, position};
 ghost use Rattle.scm_lines.specs.Attached.{attached_of};
 ghost use Rattle.scm_lines.specs.Fitting.{digits_reason, number_reason};
-ghost use Rattle.scm_lines.specs.Keywords.{type_of, version_of};
+ghost use Rattle.scm_lines.specs.Keywords.{how_of, type_of, version_of};
 ghost use Rattle.scm_lines.specs.Numbers.{is_digit, word_number};
 ghost use Rattle.scm_lines.specs.Payload.{at_most, payload_of, unescape};
 ghost use Rattle.scm_lines.specs.declared.reason.Reason.TheVariants as reason;
 ghost use Rattle.scm_lines.specs.Words.{all_printable, unprintable_at, words_of};
 
 use crate::attached::{MAX_ATTACHED, item, star_at};
-use crate::keywords::{type_named, version_named};
+use crate::keywords::{how_named, type_named, version_named};
 use crate::numbers::number;
 use crate::payload::{MAX_PAYLOAD, first_byte};
 use crate::reason::Reason;
@@ -121,6 +121,17 @@ pub fn why_type(word: &[u8]) -> Option<Misfit>
     match type_named(word) {
         Some(_) => None,
         None => Some(Misfit::at(Reason::UnknownType, word)),
+    }
+}
+
+/// Returns why `word` does not say which ends to close; `None` if it does.
+pub fn why_how(word: &[u8]) -> Option<Misfit>
+    ensures exact { is_some result ≡ is_none (how_of word.now) }
+    ensures within { IfSome result (λ m. m.left ≤ length word.now) }
+{
+    match how_named(word) {
+        Some(_) => None,
+        None => Some(Misfit::at(Reason::UnknownHow, word)),
     }
 }
 

@@ -26,6 +26,8 @@ pub enum Reason {
     NumberTooLarge,
     /// A type of sockets is one of two words.
     UnknownType,
+    /// The ends to close are one of three words.
+    UnknownHow,
     /// Only one word may follow the numbers of `spawn`.
     NotPriv,
     /// A character that has no meaning in BYTES.
@@ -40,6 +42,8 @@ pub enum Reason {
     TooManyDescriptors,
     /// The script is of version 1, which has no such event.
     NeedsVersion2,
+    /// The script is of version 1 or 2, which have no such event.
+    NeedsVersion3,
     /// No version has this name.
     UnknownVersion,
     /// Only silent lines may precede a version.
@@ -60,6 +64,7 @@ impl Reason {
             Reason::LeadingZero => "a number has no leading zero",
             Reason::NumberTooLarge => "a number is at most 4294967295",
             Reason::UnknownType => "a type is seqpacket or stream",
+            Reason::UnknownHow => "HOW is read, write or both",
             Reason::NotPriv => "only priv can stand here",
             Reason::NotInBytes => {
                 "BYTES have letters, digits, _ - . and % with two hexadecimal digits"
@@ -69,6 +74,7 @@ impl Reason {
             Reason::CountOutOfRange => "a count is from 1 to 1024",
             Reason::TooManyDescriptors => "the items of a line are at most 1024 descriptors",
             Reason::NeedsVersion2 => "this event needs the first line `version 2`",
+            Reason::NeedsVersion3 => "this event needs the first line `version 3`",
             Reason::UnknownVersion => "the versions to name are 2 and 3",
             Reason::VersionTooLate => "only comments and empty lines can stand before a version",
         }

@@ -2,7 +2,7 @@
 //!
 //! A script is of version 2 or 3 where its first line that is not silent is `version 2` or
 //! `version 3`, else of version 1. A version has all events of those before it. Version 2 adds
-//! `peek` and `limit`.
+//! `peek` and `limit`, version 3 `shutdown`.
 ghost use Rattle.std.specs.Prelude.{◌≡◌, IfErr, IfSome, if◌then◌else◌, true};
 ghost use Rattle.std.specs.Option.{option_map};
 ghost use Rattle.af_base.specs.declared.events.Event.TheVariants as event;
@@ -90,16 +90,18 @@ fn first_number(step: &Step) -> u32
 {
     match step {
         Step::Peek { .. } | Step::Limit(_) => 2,
+        Step::Shutdown { .. } => 3,
         _ => 1,
     }
 }
 
 /// Returns the number of the first version that has the verb.
-fn first_number_of_verb(verb: Verb) -> u32
+pub fn first_number_of_verb(verb: Verb) -> u32
     ensures { result ≡ first_number_of_verb verb }
 {
     match verb {
         Verb::Peek | Verb::Limit => 2,
+        Verb::Shutdown => 3,
         _ => 1,
     }
 }

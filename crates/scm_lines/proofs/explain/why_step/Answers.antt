@@ -51,3 +51,6 @@ returns-in-Recv-clause-exact c = elim c.in-Recv.is [
   | inl is ↦ rw is (c.why_words-in-Recv.ensures.exact ∙ step_fits verb.Recv (words_of c.args.bytes.now))
   | inr is ↦ rw is (c.why_words-in-Recv.ensures.exact ∙ step_fits verb.Peek (words_of c.args.bytes.now))
 ]
+
+pub returns-in-Shutdown-clause-exact : goal.returns-in-Shutdown-clause-exact
+returns-in-Shutdown-clause-exact c = rw c.in-Shutdown.is (c.why_words-in-Shutdown.ensures.exact ∙ step_fits verb.Shutdown (words_of c.args.bytes.now))
