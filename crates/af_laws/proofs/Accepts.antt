@@ -30,7 +30,7 @@ use Rattle.af_base.proofs.SettledPlaces.{settled-counted, settled-held}
 use Rattle.af_base.proofs.Places.{count-append, refs-install}
 use Rattle.af_base.proofs.SoundSteps.{NoneFits, listener-there, none-fits, process-there, socket-there}
 use Rattle.af_base.proofs.Sums.{total-change_at, total-insert}
-use Rattle.af_base.proofs.StaysWithin.{socket_same}
+use Rattle.af_base.proofs.StaysWithin.{neither, socket_same}
 use Rattle.af_laws.proofs.Bindings.{settled_alike}
 use Rattle.af_laws.proofs.PlaceCounts.{none_or_some, references_add_up}
 use Rattle.af_laws.proofs.Logs.{number_is_done, ok_is_done, outcome_done}
@@ -83,17 +83,21 @@ module _ (w : World) (p n : ℕ) (name : List ℕ) (sound : IsSound w) (fits : r
   client_there : map.get w.files c ≡ Some (AsSocket client)
   client_there = socket-there w p n row.here row.rest.here
 
+  -- The listener listens.
+  hears : not (is_listening listener.state) ≡ false
+  hears = (neither _ _ row.rest.rest.rest.rest.here).0
+
   -- The listener is live.
   listener_there : map.get w.files l ≡ Some (AsSocket listener)
-  listener_there = listener-there w name row.rest.rest.rest.rest.here
+  listener_there = listener-there w name hears
 
   -- The listener is not the client.
-  listens : not (is_listening listener.state) ≡ false → is_listening client.state ≡ false → ¬ (listener ≡ client)
-  listens hears deaf same = false≢true (sym hears ∙ ap not (ap (λ x. is_listening x.state) same ∙ deaf))
+  listens : is_listening client.state ≡ false → ¬ (listener ≡ client)
+  listens deaf same = false≢true (sym hears ∙ ap not (ap (λ x. is_listening x.state) same ∙ deaf))
 
   -- They are two sockets.
   apart : nat_eq l c ≡ false
-  apart = told_apart l c (λ same. listens row.rest.rest.rest.rest.here row.rest.rest.here (socket_same listener client (some_same _ _ (sym listener_there ∙ ap (map.get w.files) same ∙ client_there))))
+  apart = told_apart l c (λ same. listens row.rest.rest.here (socket_same listener client (some_same _ _ (sym listener_there ∙ ap (map.get w.files) same ∙ client_there))))
 
   -- The listener is as it was when the client is connected.
   listener_in_mid : map.get mid.files l ≡ Some (AsSocket listener)

@@ -24,7 +24,7 @@ use Rattle.af_base.specs.Unheld.{Goes, IsSettled, Settles}
 use Rattle.af_base.specs.Reached.{BySocket, ByTable, Garbage, IsGarbageCount, Reached, is_socket}
 use Rattle.af_base.specs.Table.{free_numbers}
 use Rattle.af_base.specs.Changes.{change_at, file_with, install, push_message, uninstall}
-use Rattle.af_base.specs.Refusals.{RefusalRow, first_fit, ino_on, no_process, no_socket, on_peer, peer_of, process_at, refusal, socket_at, socket_of, socket_on, spawn_row, step_row}
+use Rattle.af_base.specs.Refusals.{RefusalRow, first_fit, ino_on, is_deaf, no_process, no_socket, on_peer, peer_of, process_at, refusal, socket_at, socket_of, socket_on, spawn_row, step_row}
 use Rattle.af_base.specs.Steps.{Outcome, ProcessStep, SpawnStep, answer, effect, free_at, spawned}
 use Rattle.af_base.specs.Pass.{Idle, Machine}
 use Rattle.af_base.specs.Run.{Run, fresh}
@@ -316,8 +316,11 @@ sends = outcome_done _ false (answer paired 1 send_step) (reply.Sent 2) (effect 
                     (
                       ap (λ n. nat_lt MAX_INFLIGHT (n + 1)) (total_ends [] (λ x. sum_by (λ m. length m.attached) (queue_of x))),
                       (
-                        ap (λ s. nat_le MAX_MESSAGES (length (queue_at paired (peer_of s.state)))) socket_two ∙ ap (λ o. nat_le MAX_MESSAGES (length (option_map_or queue_of o []))) (file_at [] 1),
-                        tt,
+                        ap (λ s. is_deaf paired (peer_of s.state)) socket_two ∙ ap (λ o. option_map_or (λ s. s.ends.no_input) (option_and_then socket_of o) false) (file_at [] 1),
+                        (
+                          ap (λ s. nat_le MAX_MESSAGES (length (queue_at paired (peer_of s.state)))) socket_two ∙ ap (λ o. nat_le MAX_MESSAGES (length (option_map_or queue_of o []))) (file_at [] 1),
+                          tt,
+                        ),
                       ),
                     ),
                   ),

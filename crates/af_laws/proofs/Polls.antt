@@ -9,8 +9,8 @@ use Rattle.af_base.specs.declared.limits.TheConstants.{MAX_INFLIGHT}
 use Rattle.af_base.specs.World.{AsSocket, File, Plain, Process, Socket, World}
 use Rattle.af_base.specs.Counts.{total}
 use Rattle.af_base.specs.Places.{queue_at, table_at}
-use Rattle.af_base.specs.Ready.{found, reads, ready_of}
-use Rattle.af_base.specs.Refusals.{RefusalRow, first_fit, ino_on, is_hung_up, no_socket, on_accept, on_peer, on_receive, on_room, peer_of, refusal, socket_at, socket_of, socket_on}
+use Rattle.af_base.specs.Ready.{found, is_cut_off, reads, ready_of}
+use Rattle.af_base.specs.Refusals.{RefusalRow, first_fit, ino_on, is_deaf, no_socket, on_accept, on_input, on_peer, on_receive, on_room, peer_of, refusal, socket_at, socket_of, socket_on}
 use Rattle.af_base.specs.Whole.{IsSound}
 use Rattle.af_base.proofs.Lookups.{none_some, some_same}
 use Rattle.af_laws.specs.Polling.{ReadyIsWhatStepsFind}
@@ -45,9 +45,9 @@ module _ (w : World) (p n f : ℕ) (s : Socket) (sound : IsSound w) (stands : ta
   read = λ i. is_none (sym (left (λ x. on_receive x 1)) i) || is_none (sym (left on_accept) i)
 
   -- The tests of a send of a byte are those of the peer and its room.
-  send : refusal w p (step.Send n (0 ∷ []) []) ≡ first_fit (on_peer s ++ on_room (queue_at w (peer_of s.state)))
-  send = left (λ x. on_peer x ++ (nat_lt MAX_INFLIGHT (total w + 0), ENOBUFS) ∷ on_room (queue_at w (peer_of x.state)))
-      ∙ (λ i. first_fit (on_peer s ++ (no-more i, ENOBUFS) ∷ on_room (queue_at w (peer_of s.state))))
+  send : refusal w p (step.Send n (0 ∷ []) []) ≡ first_fit (on_peer s ++ on_input (is_deaf w (peer_of s.state)) ++ on_room (queue_at w (peer_of s.state)))
+  send = left (λ x. on_peer x ++ (nat_lt MAX_INFLIGHT (total w + 0), ENOBUFS) ∷ on_input (is_deaf w (peer_of x.state)) ++ on_room (queue_at w (peer_of x.state)))
+      ∙ (λ i. first_fit (on_peer s ++ (no-more i, ENOBUFS) ∷ on_input (is_deaf w (peer_of s.state)) ++ on_room (queue_at w (peer_of s.state))))
 
   -- The file is the socket s.
   file-is : map.get w.files f ≡ Some (AsSocket s)
@@ -62,5 +62,5 @@ ready_is_what_steps_find w p n f s sound stands is =
     ap (option_map (ready_of w.files)) (file-is w p n f s sound stands is) ∙ (λ i. Some (record {
       readable = read w p n f s sound stands is i;
       writable = is_none (sym (send w p n f s sound stands is) i);
-      hung_up = is_hung_up (sym (socket-is w p n f s sound stands is) i).state;
+      hung_up = is_cut_off (sym (socket-is w p n f s sound stands is) i);
     }))

@@ -13,7 +13,7 @@ use Rattle.af_base.specs.Whole.{IsSound, IsWhole, state_at}
 
 -- In a sound world a socket's readiness is what steps find, of each process that has it at a
 -- number. It tells whether a receive of a byte, an accept and a send of a byte are refused, and
--- whether the peer was freed (poll(2)).
+-- whether the peer was freed or both ends are closed (poll(2)).
 abbrev pub ReadyIsWhatStepsFind : Type 0
 ReadyIsWhatStepsFind = (w : World) (p n f : ℕ) (s : Socket) → IsSound w → table_at w p n ≡ Some f
     → socket_at w f ≡ Some s → ready w f ≡ Some (found w p n)

@@ -3,7 +3,7 @@ ghost use Rattle.af_laws.specs.Polling.{ReadyIsWhatStepsFind, StepLeavesReady, P
 
 /// In a sound world a socket's readiness is what steps find, of each process that has it at a
 /// number. It tells whether a receive of a byte, an accept and a send of a byte are refused, and
-/// whether the peer was freed.
+/// whether the peer was freed or both ends are closed.
 pub fn ready_is_what_steps_find()
     ensures { ReadyIsWhatStepsFind }
 {}
