@@ -1,5 +1,5 @@
 -- Names and listeners: who is found by a name, and what a bind and a listen leave as it was.
-use Rattle.std.proofs.Common.{◌≡◌, inl, inr, ℕ, false, not, List, ◌∷◌, ◌++◌, length, refl, sym, ap, ◌∙◌, subst, arith}
+use Rattle.std.proofs.Common.{◌≡◌, inr, ℕ, false, not, List, ◌∷◌, ◌++◌, length, refl, sym, ap, ◌∙◌, subst, arith}
 use Rattle.std.specs.Prelude.{Option, Some, None}
 use Rattle.std.specs.List.{sum_by}
 use Rattle.std.specs.FinMap as map
@@ -25,7 +25,7 @@ use Rattle.af_base.proofs.SoundSteps.{no_one, none-fits, socket-there}
 use Rattle.af_base.specs.Reached.{BySocket}
 use Rattle.af_laws.proofs.PlaceCounts.{holds_in_queue_or_backlog}
 use Rattle.af_laws.proofs.Logs.{ok_is_done, outcome_done}
-use Rattle.af_laws.proofs.Outcomes.{settled_stays}
+use Rattle.af_laws.proofs.Outcomes.{outcome_keeps, settled_stays}
 use Rattle.af_laws.specs.Connecting.{BindChangesNoCount, BoundSocketsAreFound, EmbryosAreReached, ListenChangesNoCount, NamesFindTheirSockets, SameCounts, WhatEmbryosHoldIsReached}
 
 pub embryos_are_reached : EmbryosAreReached
@@ -36,16 +36,18 @@ what_embryos_hold_is_reached w s e f r h g = BySocket e f (embryos_are_reached w
 
 pub names_find_their_sockets : NamesFindTheirSockets
 names_find_their_sockets w f name whole = (named-some w name f, λ has. by has (named w.files name) refl) where
-  by : name_at w f ≡ Some name → (o : Option ℕ) → named w.files name ≡ o → named w.files name ≡ Some f
+  by : name_at w f ≡ Some name → (o : Option ℕ) → named w.files name ≡ o
+      → named w.files name ≡ Some f
   by has None e = absurd (named-none w name e f has)
   by has (Some g) e = e ∙ ap Some (whole.names g f name (named-some w name g e) has)
 
 -- A world with the same live files, and as many references to each.
-pub settled_alike : (w now : World) → ((f : ℕ) → is_live now f ≡ is_live w f) → ((f : ℕ) → refs now f ≡ refs w f) → IsSettled w → IsSettled now
+pub settled_alike : (w now : World) → ((f : ℕ) → is_live now f ≡ is_live w f)
+    → ((f : ℕ) → refs now f ≡ refs w f) → IsSettled w → IsSettled now
 settled_alike w now live same settled = settled-counted now (λ f l. let held = settled-held w f settled (sym (live f) ∙ l) in omega (arith, held, same f))
 
 -- A world has its own counts.
-unchanged : (w : World) → SameCounts w w
+pub unchanged : (w : World) → SameCounts w w
 unchanged w = record { references = λ f. refl; in_flight = λ f. refl; in_backlogs = λ f. refl; charges = λ u. refl; all = refl }
 
 -- A settled effect is the world after the step.
@@ -55,10 +57,9 @@ module _ (now old new : World) (settled : IsSettled now) where
   is_effect t = (settled_stays now new settled).0 t
 
   -- A step that changes no count, done or refused.
-  same_outcome : SameCounts old now → (o : Option Errno) (answer r : Reply) → Outcome o false answer now old r new → SameCounts old new
-  same_outcome same (Some e) answer r h = subst (SameCounts old) (sym h.1) (unchanged old)
-  same_outcome same None answer r (inl h) = subst (SameCounts old) (sym (is_effect h.1)) same
-  same_outcome same None answer r (inr h) = subst (SameCounts old) (sym h.1) (unchanged old)
+  same_outcome : SameCounts old now → (o : Option Errno) (answer r : Reply)
+      → Outcome o false answer now old r new → SameCounts old new
+  same_outcome same o answer r = outcome_keeps (SameCounts old) o false answer now old r new (unchanged old) (λ none t. subst (SameCounts old) (sym (is_effect t)) same)
 
 -- A socket changed, but not in its queue and not in its backlog.
 module _ (w : World) (s : ℕ) (g : Socket → Socket) (same_queue : (x : Socket) → (g x).queue ≡ x.queue) (same_backlog : (x : Socket) → (g x).backlog ≡ x.backlog) where
@@ -67,7 +68,8 @@ module _ (w : World) (s : ℕ) (g : Socket → Socket) (same_queue : (x : Socket
   altered = with_socket w s g
 
   -- Each sum over queues is as before.
-  queues_alike : (F : List Message → ℕ) → total_of (λ y. F (queue_of y)) altered.files ≡ total_of (λ y. F (queue_of y)) w.files
+  queues_alike : (F : List Message → ℕ)
+      → total_of (λ y. F (queue_of y)) altered.files ≡ total_of (λ y. F (queue_of y)) w.files
   queues_alike F = total-changed (λ y. F (queue_of y)) w s g (λ x. ap F (same_queue x))
 
   -- Each reference count is as before.
@@ -75,7 +77,7 @@ module _ (w : World) (s : ℕ) (g : Socket → Socket) (same_queue : (x : Socket
   refs_alike f = omega (arith, total-changed (λ y. count_in f (contents y)) w s g (λ x. (λ i. count_in f (attached_in (same_queue x i) ++ same_backlog x i))))
 
   -- All counts are as before.
-  alike : SameCounts w altered
+  pub alike : SameCounts w altered
   alike = record {
     references = refs_alike;
     in_flight = λ f. queues_alike (λ q. count_in f (attached_in q));
@@ -85,7 +87,7 @@ module _ (w : World) (s : ℕ) (g : Socket → Socket) (same_queue : (x : Socket
   }
 
   -- It is settled if the old world is.
-  altered_settled : IsSettled w → IsSettled altered
+  pub altered_settled : IsSettled w → IsSettled altered
   altered_settled settled = settled_alike w altered (live-changed w s g) refs_alike settled
 
 pub bind_changes_no_count : BindChangesNoCount

@@ -23,3 +23,7 @@ pub mod CyclePass
 pub mod Peeks
 pub mod Polls
 pub mod FreedPeriods
+pub mod SocketChanges
+pub mod Shutdowns
+pub mod SocketWalks
+pub mod ClosedEnds

@@ -1,13 +1,25 @@
 -- The settled world is settled, and an unheld file may be freed first.
 use Rattle.std.proofs.Common.{◌≡◌, inl, inr, ℕ, Bool, true, false, not, ◌||◌, ◌&&◌, refl, sym, ap, ◌∙◌, subst, nat_eq}
+use Rattle.std.specs.Prelude.{Option, Some, None}
 use Rattle.std.proofs.Math.Bool.{and-true}
 use Rattle.std.proofs.lemmas.Bool.{and_from, and_parts, eqb-true, false≢true}
+use Rattle.af_base.specs.declared.errno.Errno.{Errno}
+use Rattle.af_base.specs.declared.events.Reply.{Reply}
+use Rattle.af_base.specs.Steps.{Outcome}
 use Rattle.af_base.specs.World.{World, IsLive}
 use Rattle.af_base.specs.Places.{InTable, Holds}
 use Rattle.af_base.specs.Unheld.{Goes, Settles, Unheld, without}
 use Rattle.af_base.proofs.SettledWorlds.{first_goes, goes_down, goes_up, live-without, settled_by, settles_first, settles_none, settles_once, stays, without-without}
 use Rattle.af_base.proofs.Soundness.{settled-settles}
 use Rattle.af_laws.specs.Settling.{CyclesStay, HeldWorldIsSettled, SettledStays, SettlesToOne, SettlingSettles, SettlingTwiceIsOnce, UnplacedGoesFirst, UnplacedIsUnheld}
+
+-- What holds of the old world, and wherever an effect that nothing refuses settles, holds after any
+-- outcome.
+pub outcome_keeps : (P : World → Type 0) (o : Option Errno) (frugal : Bool) (answer : Reply) (effect old : World) (r : Reply) (new : World) → P old → (o ≡ None → Settles effect new → P new) → Outcome o frugal answer effect old r new → P new
+outcome_keeps P (Some e) frugal answer effect old r new was then out = subst P (sym out.1) was
+outcome_keeps P None true answer effect old r new was then out = then refl out.1
+outcome_keeps P None false answer effect old r new was then (inl y) = then refl y.1
+outcome_keeps P None false answer effect old r new was then (inr y) = subst P (sym y.1) was
 
 pub settles_to_one : SettlesToOne
 settles_to_one = settles_once
@@ -68,7 +80,8 @@ module _ (w new : World) (f : ℕ) (live : IsLive w f) (no_table : ¬ (InTable w
   same : (g : ℕ) → s.0 g ≡ (nat_eq f g || gone g)
   same g = by (nat_eq f g) refl where
     by : (b : Bool) → nat_eq f g ≡ b → s.0 g ≡ (b || (s.0 g && not b))
-    by true e = (s.1 g).1 (subst (Unheld w) (eqb-true f g e) (first_goes w f live no_table no_holder))
+    by true e =
+        (s.1 g).1 (subst (Unheld w) (eqb-true f g e) (first_goes w f live no_table no_holder))
     by false e = sym (and-true (s.0 g))
 
   -- The world without f settles to the same.

@@ -11,3 +11,4 @@ pub mod Connecting
 pub mod Peeking
 pub mod Polling
 pub mod Telling
+pub mod Shutting

@@ -12,6 +12,7 @@ pub mod reaching;
 pub mod rows;
 pub mod running;
 pub mod settling;
+pub mod shutting;
 pub mod stepping;
 pub mod taking;
 pub mod telling;

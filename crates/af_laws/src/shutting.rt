@@ -1,0 +1,36 @@
+//! Laws of a shutdown.
+ghost use Rattle.af_laws.specs.Shutting.{ShutdownChangesNoPlace, ShutdownNeverFails};
+ghost use Rattle.af_laws.specs.Shutting.{SecondShutdownChangesNothing, ShutEndsStayShut};
+ghost use Rattle.af_laws.specs.Shutting.{WhatWaitsIsReceivedAfterShutdown, ShutInputEnds};
+
+/// A shutdown changes no place, no name and no state, whatever the answer.
+pub fn shutdown_changes_no_place()
+    ensures { ShutdownChangesNoPlace }
+{}
+
+/// A socket at an open descriptor can always be shut: there is no other answer, also where its ends
+/// are closed already.
+pub fn shutdown_never_fails()
+    ensures { ShutdownNeverFails }
+{}
+
+/// A second shutdown of the same kind changes nothing, whatever both are answered.
+pub fn second_shutdown_changes_nothing()
+    ensures { SecondShutdownChangesNothing }
+{}
+
+/// No event opens a closed end of a socket, whatever the answer.
+pub fn shut_ends_stay_shut()
+    ensures { ShutEndsStayShut }
+{}
+
+/// What waits anywhere is received after a shutdown, of any kind and by any process, as it would
+/// have been before it.
+pub fn what_waits_is_received_after_shutdown()
+    ensures { WhatWaitsIsReceivedAfterShutdown }
+{}
+
+/// A valid receive from a connected socket with a closed input, where nothing waits, answers End.
+pub fn shut_input_ends()
+    ensures { ShutInputEnds }
+{}
