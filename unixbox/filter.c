@@ -208,8 +208,9 @@ static bool is_call_there(void) {
  * received. Where one is not quick, another thread receives from then on. Returns whether this one
  * still does. */
 static bool serve_in_turn(const struct seccomp_notif *first) {
-    struct seccomp_notif calls[MOST_CALLS] = {*first};
+    struct seccomp_notif calls[MOST_CALLS]; /* The others are written when they are received. */
     bool is_receiver = true;
+    calls[0] = *first;
     for (size_t next = 0, count = 1; next < count; next++) {
         if (is_receiver && !is_quick(calls[next].data.nr)) {
             is_receiver = false;
@@ -286,6 +287,7 @@ void wake(uint64_t ino) {
 
 /* Wakes the calls that wait for either end of a connection. */
 void wake_ends(const struct file *file) {
+    if (TAILQ_EMPTY(&waiting)) return;
     const struct file *peer = peer_of(file);
     wake(file->ino);
     if (peer != NULL) wake(peer->ino);

@@ -92,8 +92,8 @@ bool collect(void) {
     struct jw_finished over = {0, 0};
     uint64_t in_flight = 0, pass = 0;
     if (!is_running) {
-        jw_total(&engine, &in_flight);
-        bool is_due = is_collection_due && in_flight > 0 && options.collector != COLLECT_NEVER;
+        if (is_collection_due) jw_total(&engine, &in_flight);
+        bool is_due = in_flight > 0 && options.collector != COLLECT_NEVER;
         is_collection_due = false;
         if (!is_due) return false;
         if (options.collector == COLLECT_SLICES)

@@ -84,11 +84,11 @@ long read_message(struct call *call) {
 }
 
 /* Finds the descriptors and the credentials that go with a message. */
-static long read_control(const struct call *call) {
+static long read_control(const struct call *call, const struct file *peer) {
     struct msghdr copy = {.msg_control = message.control,
                           .msg_controllen = message.header.msg_controllen};
     char *end = message.control + copy.msg_controllen;
-    message.user = user_of(call, peer_of(call->file));
+    message.user = user_of(call, peer);
     for (struct cmsghdr *it = CMSG_FIRSTHDR(&copy); it != NULL; it = CMSG_NXTHDR(&copy, it)) {
         size_t size = it->cmsg_len - CMSG_LEN(0), count = size / sizeof(int);
         if (it->cmsg_len < CMSG_LEN(0) || it->cmsg_len > (size_t)(end - (char *)it)) return -EINVAL;
@@ -139,14 +139,14 @@ static long send_part(struct call *call, struct file *peer) {
 /* Returns what refuses a send before the layer is asked, or 0. */
 long refusal_of_send(struct call *call, const struct file *peer) {
     bool is_stream = call->file->kind == JW_STREAM;
-    uint32_t state = state_of(call->file->ino).state;
     bool is_shut = (call->file->shut & 2) || (peer != NULL && (peer->shut & 1));
     if ((message.flags & MSG_OOB) && !(options.oob && is_stream)) return -EOPNOTSUPP;
     if (message.header.msg_namelen > 0 && is_stream) return peer != NULL ? -EISCONN : -EOPNOTSUPP;
     if (message.total > JW_MAX_BYTES && !is_stream) return -EMSGSIZE;
     if (!is_stream && take_reset(call->file)) return -ECONNRESET;
     call->raises_sigpipe = is_stream && !(message.flags & MSG_NOSIGNAL);
-    return is_shut && (state == JW_CONNECTED || state == JW_HUNG_UP) ? -EPIPE : 0;
+    uint32_t state = is_shut ? state_of(call->file->ino).state : JW_IDLE;
+    return state == JW_CONNECTED || state == JW_HUNG_UP ? -EPIPE : 0;
 }
 
 /* Sends what was read of a message, or a part of it. */
@@ -166,9 +166,10 @@ long send_bytes(struct call *call) {
 }
 
 long serve_send(struct call *call) {
+    const struct file *peer = peer_of(call->file);
     long result = read_message(call);
-    if (result == 0) result = read_control(call);
-    if (result == 0) result = refusal_of_send(call, peer_of(call->file));
+    if (result == 0) result = read_control(call, peer);
+    if (result == 0) result = refusal_of_send(call, peer);
     if (result == 0) result = copy_files(call->process);
     if (result < 0) return result;
     struct iovec here = {message.bytes, message.length};

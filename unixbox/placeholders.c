@@ -83,9 +83,9 @@ void reopen_placeholder(struct file *file) {
 /* Makes the bytes in the placeholder as many as the layer has messages for the socket. One stays as
  * long as a message is held back. */
 void refresh(struct file *file) {
-    uint64_t messages = state_of(file->ino).messages;
-    uint64_t count = messages > 0 ? messages : file->held != NULL;
-    const struct file *peer = file->tokens < count ? peer_of(file) : NULL;
+    struct jw_file state = state_of(file->ino);
+    uint64_t count = state.messages > 0 ? state.messages : file->held != NULL;
+    const struct file *peer = state.peer != 0 && file->tokens < count ? file_at(state.peer) : NULL;
     char token;
     while (file->tokens < count && peer != NULL &&
            send(peer->host, "", 1, MSG_DONTWAIT | MSG_NOSIGNAL) == 1)
