@@ -14,6 +14,13 @@ static TAILQ_HEAD(, call) waiting = TAILQ_HEAD_INITIALIZER(waiting);
 static TAILQ_HEAD(, call) woken = TAILQ_HEAD_INITIALIZER(woken);
 static atomic_bool is_alone; /* There is one process, with one thread. */
 static atomic_int expected; /* How many threads wait for the lock in turn. */
+static atomic_ulong served; /* How many calls were served. */
+
+/* A call that was received when so many had been served. */
+struct arrival {
+    struct seccomp_notif call;
+    uint64_t served;
+};
 
 /* Refuses what would move bytes or descriptors past the layer. */
 static long refuse(struct call *call) {
@@ -110,8 +117,10 @@ static long serve_by_number(struct call *call) {
     call->file = file_of(call->process, call->fd);
     if (call->file != NULL && call->file->kind == JW_PLAIN) call->file = NULL;
     handler *serve = call->file != NULL ? socket_handlers[call->number] : NULL;
+    bool is_sure = call->is_sure;
     if (serve == NULL) serve = handlers[call->number];
-    return serve != NULL && is_pending(call) ? serve(call) : KERNEL_DOES_IT;
+    call->is_sure = false;
+    return serve != NULL && (is_sure || is_pending(call)) ? serve(call) : KERNEL_DOES_IT;
 }
 
 /* Serves a call of a process that is known and not over. */
@@ -146,7 +155,8 @@ static bool is_interrupted(const struct call *call) {
 void rerun_woken_calls(void) {
     for (struct call *call; (call = TAILQ_FIRST(&woken)) != NULL;) {
         TAILQ_REMOVE(&woken, call, entries);
-        long result = is_pending(call) ? serve_call(call) : KERNEL_DOES_IT;
+        call->is_sure = is_pending(call);
+        long result = call->is_sure ? serve_call(call) : KERNEL_DOES_IT;
         if (result == CALL_WAITS && is_interrupted(call)) {
             result = serve_call(call); /* What came with the signal goes first. */
             if (result == CALL_WAITS) result = call->deadline == NEVER ? RESTART : -EINTR;
@@ -155,11 +165,22 @@ void rerun_woken_calls(void) {
     }
 }
 
-static void serve_notification(const struct seccomp_notif *notif) {
+/* Whether a call moves bytes, if its first argument is a socket of the layer. */
+static bool moves_bytes(int number) {
+    handler *serve = socket_handlers[number];
+    return serve == serve_send || serve == serve_recv;
+}
+
+/* Serves a call that was received. One that moves bytes touches its caller's memory first, which
+ * fails where that is over: whether it is still there is asked only if others were served before. */
+static void serve_arrival(const struct arrival *arrival) {
+    const struct seccomp_notif *notif = &arrival->call;
     if (!is_alone) forget_ended(); /* A caller may have waited for a child that was killed. */
     struct call call = {.id = notif->id, .number = notif->data.nr, .tid = (pid_t)notif->pid,
                         .fd = (uint32_t)notif->data.args[0]};
     call.process = process_of(call.tid);
+    call.is_sure = arrival->served == served && moves_bytes(call.number);
+    served++;
     memcpy(call.args, notif->data.args, sizeof call.args);
     if (call.process != NULL) call.pid = call.process->pid;
     counts.calls++;
@@ -173,10 +194,8 @@ static void serve_notification(const struct seccomp_notif *notif) {
 
 /* Whether a call is served sooner than another thread would be there to receive the next one. */
 static bool is_quick(int number) {
-    handler *serve = socket_handlers[number];
-    bool moves_bytes = serve == serve_send || serve == serve_recv;
     bool is_checked = options.verifies || options.checks || options.collector == COLLECT_PASSES;
-    return is_alone || (!is_checked && (moves_bytes || number == SYS_close));
+    return is_alone || (!is_checked && (moves_bytes(number) || number == SYS_close));
 }
 
 /* Takes the lock. Who tries to have it soon gives way: one thread could have it again and again. */
@@ -194,9 +213,11 @@ static bool lock_soon(void) {
     return true;
 }
 
-static bool receive_call(struct seccomp_notif *out) {
-    *out = (struct seccomp_notif){0};
-    return ioctl(notifications, SECCOMP_IOCTL_NOTIF_RECV, out) == 0;
+static bool receive_call(struct arrival *out) {
+    out->call = (struct seccomp_notif){0};
+    bool has_call = ioctl(notifications, SECCOMP_IOCTL_NOTIF_RECV, &out->call) == 0;
+    out->served = served;
+    return has_call;
 }
 
 static bool is_call_there(void) {
@@ -207,19 +228,19 @@ static bool is_call_there(void) {
 /* Serves a call, and those that come meanwhile: before each is served, all that are there are
  * received. Where one is not quick, another thread receives from then on. Returns whether this one
  * still does. */
-static bool serve_in_turn(const struct seccomp_notif *first) {
-    struct seccomp_notif calls[MOST_CALLS]; /* The others are written when they are received. */
+static bool serve_in_turn(const struct arrival *first) {
+    struct arrival calls[MOST_CALLS]; /* The others are written when they are received. */
     bool is_receiver = true;
     calls[0] = *first;
     for (size_t next = 0, count = 1; next < count; next++) {
-        if (is_receiver && !is_quick(calls[next].data.nr)) {
+        if (is_receiver && !is_quick(calls[next].call.data.nr)) {
             is_receiver = false;
             pthread_mutex_unlock(&receiving);
         }
         while (is_receiver && !is_alone && expected == 0 && count < MOST_CALLS &&
                is_call_there() && receive_call(&calls[count]))
             count++;
-        serve_notification(&calls[next]);
+        serve_arrival(&calls[next]);
     }
     return is_receiver;
 }
@@ -231,18 +252,18 @@ void *serve_calls(void *none) {
     struct pollfd ask = {notifications, POLLIN, 0};
     bool is_receiver = false;
     while (!(ask.revents & (POLLHUP | POLLERR))) {
-        struct seccomp_notif call;
+        struct arrival arrival;
         if (!is_receiver) pthread_mutex_lock(&receiving);
-        bool has_call = receive_call(&call);
+        bool has_call = receive_call(&arrival);
         if (!has_call) poll(&ask, 1, 0); /* Whether a program is left. */
-        is_receiver = has_call && is_quick(call.data.nr) && lock_soon();
+        is_receiver = has_call && is_quick(arrival.call.data.nr) && lock_soon();
         if (!is_receiver) pthread_mutex_unlock(&receiving);
         if (!has_call) continue;
         if (is_receiver) {
-            is_receiver = serve_in_turn(&call);
+            is_receiver = serve_in_turn(&arrival);
         } else {
             lock_first();
-            serve_notification(&call);
+            serve_arrival(&arrival);
         }
         pthread_mutex_unlock(&serving);
     }

@@ -85,6 +85,7 @@ static long receive(struct call *call, size_t room, bool has_user) {
     struct iovec here = {message.bytes, length};
     ssize_t written = process_vm_writev(call->tid, &here, 1, message.parts,
                                         message.header.msg_iovlen, 0);
+    if (written < 0 && errno == ESRCH) return -ESRCH; /* The caller is over, and takes nothing. */
     if (written < (ssize_t)length) {
         length = is_packet ? 0 : bytes_of_whole_messages(file, written > 0 ? (size_t)written : 0);
         if (is_packet && !peeks) take(call, 1, queued, 0);

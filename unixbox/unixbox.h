@@ -134,6 +134,7 @@ struct call {
     uint32_t pid, fd;     /* The layer's number of the process; the first argument. */
     struct file *file;    /* The socket of the layer that the first argument names, or NULL. */
     uint64_t waits_for;   /* The socket whose change it waits for, EVERYONE or NOTHING. */
+    bool is_sure;         /* Its caller was there a moment ago: it is not asked for again. */
     bool raises_sigpipe;
     size_t moved, room;   /* Bytes that it has moved, and of control data that are left. */
     struct ucred sender;  /* Who sent what it has received. */
