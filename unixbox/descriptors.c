@@ -179,6 +179,7 @@ long serve_dup(struct call *call) {
     bool closes_on_exec = is_fcntl ? call->args[1] == F_DUPFD_CLOEXEC
                                    : is_dup3 && (call->args[2] & O_CLOEXEC);
     uint64_t from = is_fcntl ? call->args[2] : 0, to = call->args[1];
+    if (is_fcntl && call->args[1] == F_SETFL && (call->args[2] & O_ASYNC)) tell_edges();
     if (is_fcntl && !closes_on_exec && call->args[1] != F_DUPFD) return KERNEL_DOES_IT;
     struct file *file = sync_file(call->process, call->fd);
     if (file == NULL || (is_fixed && (call->fd == to || to >= JW_MAX_NOFILE)) ||

@@ -12,6 +12,7 @@ pthread_mutex_t serving = PTHREAD_MUTEX_INITIALIZER;
 static pthread_mutex_t receiving = PTHREAD_MUTEX_INITIALIZER;
 static TAILQ_HEAD(, call) waiting = TAILQ_HEAD_INITIALIZER(waiting);
 static TAILQ_HEAD(, call) woken = TAILQ_HEAD_INITIALIZER(woken);
+static TAILQ_HEAD(, call) done = TAILQ_HEAD_INITIALIZER(done); /* They are to be answered. */
 static atomic_bool is_alone; /* There is one process, with one thread. */
 static atomic_int expected; /* How many threads wait for the lock in turn. */
 static atomic_ulong served; /* How many calls were served. */
@@ -52,7 +53,8 @@ static handler *const handlers[MOST_NUMBERS] = {
     [SYS_unshare] = serve_unshare, [SYS_prctl] = serve_prctl, [SYS_splice] = serve_splice,
     [SYS_sendfile] = serve_sendfile_elsewhere, [SYS_close_range] = serve_close_range,
     [SYS_wait4] = serve_wait, [SYS_waitid] = serve_wait, [SYS_io_uring_setup] = refuse,
-    [SYS_io_setup] = refuse, [SYS_pidfd_getfd] = refuse,
+    [SYS_io_setup] = refuse, [SYS_pidfd_getfd] = refuse, [SYS_epoll_create] = serve_epoll,
+    [SYS_epoll_create1] = serve_epoll,
 };
 
 /* Installs the filter in this process. Returns the descriptor of its notifications. */
@@ -92,18 +94,32 @@ bool is_pending(const struct call *call) {
     return ioctl(notifications, SECCOMP_IOCTL_NOTIF_ID_VALID, &call->id) == 0;
 }
 
-static void answer(struct call *call, long result) {
-    handler *serve = socket_handlers[call->number];
-    bool is_received = call->moved > 0 && serve == serve_recv;
+/* Returns the answer to a call that ends so. Its caller is told by a signal, too, if it is to be. */
+static long conclude_call(struct call *call, long result) {
     if (call->moved > 0) result = (long)call->moved; /* Whatever ended it. */
     if (call->raises_sigpipe && result == -EPIPE)
         syscall(SYS_tgkill, call->process->tgid, call->tid, SIGPIPE);
-    if (serve == serve_batch) result = answer_of_batch(call, result);
+    return socket_handlers[call->number] == serve_batch ? answer_of_batch(call, result) : result;
+}
+
+static void answer(struct call *call) {
+    bool is_received = call->moved > 0 && socket_handlers[call->number] == serve_recv;
+    long result = call->result;
     struct seccomp_notif_resp response = {.id = call->id, .val = result >= 0 ? result : 0};
     response.flags = result == KERNEL_DOES_IT ? SECCOMP_USER_NOTIF_FLAG_CONTINUE : 0;
     response.error = result < 0 && result != KERNEL_DOES_IT ? (int)result : 0;
     if (ioctl(notifications, SECCOMP_IOCTL_NOTIF_SEND, &response) < 0) counts.lost += is_received;
     free(call);
+}
+
+/* Answers all calls that are done. Before their callers go on, placeholders are ready for what the
+ * calls left: not for a message that one of them sent and another has received. */
+static void answer_done(void) {
+    refresh_touched();
+    for (struct call *call; (call = TAILQ_FIRST(&done)) != NULL;) {
+        TAILQ_REMOVE(&done, call, entries);
+        answer(call);
+    }
 }
 
 /* Says at the first call of a process that the layer does not know that such calls fail. */
@@ -135,14 +151,15 @@ static long serve_call(struct call *call) {
     return serve_by_number(call);
 }
 
-/* Answers a call, or lets it wait. Before its caller goes on, placeholders are ready for what the
- * call left. */
+/* Lets a call wait, or be answered soon. */
 static void finish(struct call *call, long result) {
     settle(false);
-    if (result == CALL_WAITS)
+    if (result == CALL_WAITS) {
         TAILQ_INSERT_TAIL(&waiting, call, entries);
-    else
-        answer(call, result);
+    } else {
+        call->result = conclude_call(call, result);
+        TAILQ_INSERT_TAIL(&done, call, entries);
+    }
 }
 
 static bool is_interrupted(const struct call *call) {
@@ -163,6 +180,7 @@ void rerun_woken_calls(void) {
         }
         finish(call, result);
     }
+    answer_done();
 }
 
 /* Whether a call moves bytes, if its first argument is a socket of the layer. */
@@ -186,6 +204,7 @@ static void serve_arrival(const struct arrival *arrival) {
     counts.calls++;
     struct call *kept = copy_of(&call, sizeof call);
     finish(kept, serve_call(kept));
+    rerun_woken_calls();
     collect();
     rerun_woken_calls();
     const struct process *first = LIST_FIRST(&processes);

@@ -65,7 +65,7 @@ static void note_leak(const struct file *file) {
     leaks[i].count[file->kind == JW_PLAIN]++;
 }
 
-/* Frees what the last call or the collector freed, refreshes and wakes what changed, recounts. */
+/* Frees what the last call or the collector freed, touches and wakes what changed, recounts. */
 void settle(bool is_collected) {
     static uint64_t inos[JW_MAX_FILES];
     int64_t freed = jw_released(&engine, inos, JW_MAX_FILES);
@@ -80,7 +80,7 @@ void settle(bool is_collected) {
     int64_t changed = jw_changed(&engine, inos, JW_MAX_FILES);
     for (int64_t i = 0; i < changed; i++) {
         struct file *file = file_at(inos[i]);
-        refresh(file);
+        touch(file);
         wake_ends(file);
     }
     if (freed + changed > 0) jw_clear_told(&engine);

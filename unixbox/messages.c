@@ -159,7 +159,7 @@ long send_bytes(struct call *call) {
     if (result < 0) return result;
     for (size_t i = 0; i < message.fd_count; i++)
         file_of(call->process, message.fds[i])->sender = call->process->status;
-    refresh(peer);
+    touch(peer); /* Of what is held back, the layer tells no change. */
     call->moved += (size_t)result;
     call->room = 0; /* Descriptors go with the first part. */
     return result;

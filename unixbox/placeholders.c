@@ -4,6 +4,8 @@
 #include "unixbox.h"
 
 struct file_list files[FILE_SLOTS];
+static struct file_list stale = LIST_HEAD_INITIALIZER(stale);
+static bool tells_edges; /* A program may see each message come, not only whether there is one. */
 
 void *copy_of(const void *value, size_t size) {
     void *copy = malloc(size);
@@ -53,6 +55,7 @@ struct file *peer_of(const struct file *file) {
 
 void free_file(struct file *file) {
     LIST_REMOVE(file, entries);
+    if (file->is_stale) LIST_REMOVE(file, stale_entries);
     if (file->host >= 0) close(file->host);
     if (file->path >= 0) close(file->path);
     set_peer(file, file->peer_user, NULL);
@@ -80,16 +83,63 @@ void reopen_placeholder(struct file *file) {
     file->host = hosts[0];
 }
 
-/* Makes the bytes in the placeholder as many as the layer has messages for the socket. One stays as
- * long as a message is held back. */
+/* Notes that a socket may be ready for something else than its placeholder is. */
+void touch(struct file *file) {
+    if (file->is_stale) return;
+    file->is_stale = true;
+    LIST_INSERT_HEAD(&stale, file, stale_entries);
+}
+
+static void add_tokens(struct file *file, const struct file *peer, uint64_t count) {
+    for (; count > 0 && send(peer->host, "", 1, MSG_DONTWAIT | MSG_NOSIGNAL) == 1; count--)
+        file->tokens++;
+}
+
+/* Takes bytes out of a placeholder until so many are left: many by one call on a stream. */
+static void drop_tokens(struct file *file, uint64_t count) {
+    char dropped[2 * JW_MAX_MESSAGES];
+    while (file->tokens > count) {
+        uint64_t most = file->kind == JW_STREAM ? file->tokens - count : 1;
+        ssize_t length = recv(file->host, dropped, lesser(most, sizeof dropped), MSG_DONTWAIT);
+        if (length <= 0) return;
+        file->tokens -= (uint64_t)length;
+    }
+}
+
+/* Makes a placeholder ready for what its socket is ready for. There are bytes in it where there are
+ * messages, if only one that is held back, and as many as fill it where the queue is full. Bytes of
+ * received messages may stay meanwhile. Where edges are told, each new message adds a byte. */
 void refresh(struct file *file) {
     struct jw_file state = state_of(file->ino);
     uint64_t count = state.messages > 0 ? state.messages : file->held != NULL;
-    const struct file *peer = state.peer != 0 && file->tokens < count ? file_at(state.peer) : NULL;
-    char token;
-    while (file->tokens < count && peer != NULL &&
-           send(peer->host, "", 1, MSG_DONTWAIT | MSG_NOSIGNAL) == 1)
-        file->tokens++;
-    while (file->tokens > count && recv(file->host, &token, 1, MSG_DONTWAIT) == 1)
-        file->tokens--;
+    bool is_full = count >= JW_MAX_MESSAGES;
+    uint64_t least = is_full ? JW_MAX_MESSAGES : count > 0;
+    uint64_t most = is_full ? UINT64_MAX : count > 0 ? JW_MAX_MESSAGES - 1 : 0;
+    uint64_t added = tells_edges && count > file->messages ? count - file->messages : 0;
+    if (file->tokens + added < least) added = least - file->tokens;
+    if (file->tokens + added > most) drop_tokens(file, count - added);
+    if (added > 0 && state.peer != 0) add_tokens(file, file_at(state.peer), added);
+    file->messages = count;
+}
+
+/* Refreshes all that were touched, before a caller goes on. */
+void refresh_touched(void) {
+    for (struct file *it; (it = LIST_FIRST(&stale)) != NULL;) {
+        LIST_REMOVE(it, stale_entries);
+        it->is_stale = false;
+        refresh(it);
+    }
+}
+
+/* Lets placeholders tell each message from now on: epoll(7) with EPOLLET or EPOLLEXCLUSIVE does, and
+ * SIGIO. Where there is neither, a byte for a queue that is neither empty nor full is enough. */
+void tell_edges(void) {
+    tells_edges = true;
+}
+
+/* epoll_create(2) */
+long serve_epoll(struct call *call) {
+    (void)call;
+    tell_edges();
+    return KERNEL_DOES_IT;
 }

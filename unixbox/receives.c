@@ -5,10 +5,6 @@
 
 enum { USER_SPACE = CMSG_SPACE(sizeof(struct ucred)) };
 
-static size_t lesser(size_t one, size_t other) {
-    return one < other ? one : other;
-}
-
 /* Copies what there is to receive, at most so many bytes, and leaves it where it is. Returns how
  * many bytes that is, 0 at the end, or a negative errno, and how many of them the layer has. */
 long look(const struct call *call, size_t length, size_t *queued) {
@@ -44,7 +40,7 @@ long take(const struct call *call, size_t length, size_t queued, size_t room) {
     if (result < 0 || (message.flags & MSG_PEEK)) return result;
     drop_received(call->file, length);
     if (queued > 0) return 0;
-    refresh(call->file); /* Of what was held back, the layer tells no change. */
+    touch(call->file); /* Of what was held back, the layer tells no change. */
     wake_ends(call->file);
     return 0;
 }
@@ -195,6 +191,7 @@ long serve_recv(struct call *call) {
 /* ioctl(2): FIONREAD tells how many bytes there are to receive. */
 long serve_unread(struct call *call) {
     int length = (int)bytes_waiting(call->file);
+    if ((unsigned)call->args[1] == FIOASYNC) tell_edges();
     if ((unsigned)call->args[1] != FIONREAD) return KERNEL_DOES_IT;
     if (call->file->listens) return -EINVAL;
     return write_memory(call, call->args[2], &length, sizeof length) ? 0 : -EFAULT;

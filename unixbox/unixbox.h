@@ -99,7 +99,9 @@ struct file {
     int host;             /* The placeholder, or a copy of a plain file that was sent, or -1. */
     int path;             /* Keeps the inode of a pathname from being used again, or -1. */
     int shut;             /* What shutdown(2) ended: 1 for receives, 2 for sends. */
-    uint64_t tokens;      /* Bytes in the placeholder: as many as the socket has messages. */
+    uint64_t messages;    /* How many messages its placeholder was refreshed for last. */
+    uint64_t tokens;      /* Bytes in the placeholder. */
+    bool is_stale;        /* Its placeholder is to be refreshed. */
     struct address {
         struct sockaddr_un name;
         socklen_t length; /* 0 where there is none. */
@@ -115,7 +117,7 @@ struct file {
     size_t charge;        /* What all of them take of a send buffer. */
     struct status sender; /* Who sent this file last. */
     uint64_t places;      /* How many places in tables a recount finds. */
-    LIST_ENTRY(file) entries;
+    LIST_ENTRY(file) entries, stale_entries;
 };
 
 /* How a user namespace numbers users or groups. */
@@ -140,6 +142,7 @@ struct call {
     struct ucred sender;  /* Who sent what it has received. */
     uint64_t done;        /* Messages that a sendmmsg(2) or a recvmmsg(2) is done with. */
     uint64_t deadline;    /* In milliseconds. 0 until it waits. */
+    long result;          /* Its answer, where it is only to be sent. */
     TAILQ_ENTRY(call) entries;
 };
 
@@ -249,6 +252,10 @@ int open_socket_file(const struct call *call, const char *path);
 int make_socket_file(const struct call *call, const char *path, mode_t mode);
 void remove_socket_file(const struct call *call, const char *path, int file);
 
+static inline size_t lesser(size_t one, size_t other) {
+    return one < other ? one : other;
+}
+
 int keep_back(int host, int count);
 void *copy_of(const void *value, size_t size);
 struct jw_file state_of(uint64_t ino);
@@ -258,7 +265,10 @@ struct file *peer_of(const struct file *file);
 void free_file(struct file *file);
 void close_spare_placeholder(struct file *file);
 void reopen_placeholder(struct file *file);
+void touch(struct file *file);
 void refresh(struct file *file);
+void refresh_touched(void);
+void tell_edges(void);
 
 bool is_same_user(const struct ucred *one, const struct ucred *other);
 void note_message(struct file *file, const struct ucred *sender, size_t length);
@@ -288,4 +298,4 @@ handler serve_socket, serve_bind, serve_listen, serve_connect, serve_accept, ser
     serve_name, serve_set_option, serve_get_option, serve_send, serve_recv, serve_batch,
     serve_unread, serve_sendfile, serve_sendfile_elsewhere, serve_splice, serve_close,
     serve_close_range, serve_wait, serve_dup, serve_fork, serve_unshare, serve_prctl, serve_change,
-    serve_limit, serve_old_limit;
+    serve_limit, serve_old_limit, serve_epoll;
