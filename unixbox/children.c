@@ -13,9 +13,9 @@ static void drop_process(struct process *process) {
 
 /* Adds a process of the layer, which this thread is to fork. It keeps the descriptors back that its
  * binding takes. Returns 0, or EAGAIN where too few are left. */
-long add_process(uint32_t pid, pid_t forker, struct namespaces namespaces) {
-    struct process value = {.pid = pid, .forker = forker, .namespaces = namespaces, .thread = -1,
-                            .has_changed = true};
+long add_process(uint32_t pid, size_t fd_count, pid_t forker, struct namespaces namespaces) {
+    struct process value = {.pid = pid, .fd_count = fd_count, .forker = forker, .thread = -1,
+                            .namespaces = namespaces, .has_changed = true};
     value.pidfd = keep_back(fcntl(watches, F_DUPFD_CLOEXEC, 0), KEPT_FOR_CALLS);
     value.spare = keep_back(fcntl(watches, F_DUPFD_CLOEXEC, 0), KEPT_FOR_CALLS);
     struct process *process = copy_of(&value, sizeof value);

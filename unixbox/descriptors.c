@@ -1,23 +1,35 @@
 /* Descriptors: tables of programs, kept the same in the kernel and in the layer. */
 #include "unixbox.h"
 #include <linux/close_range.h>
+#include <linux/kcmp.h>
 
 enum { MOST_LOOKS = 40, LOOK_MICROSECONDS = 50 };
 
-void close_fd(const struct process *process, uint32_t fd) {
+void close_fd(struct process *process, uint32_t fd) {
     struct file *file = file_of(process, fd);
-    record(process->pid, jw_close(&engine, process->pid, fd), "close %u", fd);
+    long result = record(process->pid, jw_close(&engine, process->pid, fd), "close %u", fd);
+    process->fd_count -= result >= 0;
     if (file != NULL) close_spare_placeholder(file);
     is_collection_due = true;
 }
 
-static long duplicate_at(const struct process *process, uint32_t from, uint32_t to) {
+static long open_lowest(struct process *process) {
+    long result = record(process->pid, jw_open(&engine, process->pid), "open");
+    process->fd_count += result >= 0;
+    return result;
+}
+
+static long duplicate_at(struct process *process, uint32_t from, uint32_t to) {
+    bool is_free = file_of(process, to) == NULL;
+    int64_t answer = jw_dup2(&engine, process->pid, from, to);
+    long result = record(process->pid, answer, "dup2 %u %u", from, to);
+    process->fd_count += is_free && result >= 0;
     is_collection_due = true;
-    return record(process->pid, jw_dup2(&engine, process->pid, from, to), "dup2 %u %u", from, to);
+    return result;
 }
 
 /* Moves what the layer has opened at `fd` to another number. If that is an errno, closes it. */
-static void move_fd(const struct process *process, uint32_t fd, long to) {
+static void move_fd(struct process *process, uint32_t fd, long to) {
     if (to == fd) return;
     if (to >= 0) duplicate_at(process, fd, (uint32_t)to);
     close_fd(process, fd);
@@ -33,20 +45,16 @@ static bool is_there(const struct process *process, uint32_t fd, const struct fi
             there.st_dev == here.st_dev && there.st_ino == here.st_ino);
 }
 
-/* Notes which file the layer has at each number. Returns how many there are. */
-static off_t list_layer(const struct process *process, uint64_t *inos) {
-    off_t count = 0;
+/* Notes which file the layer has at each number. */
+static void list_layer(const struct process *process, uint64_t *inos) {
     uint64_t ino;
-    for (int64_t fd = 0; (fd = jw_next_fd(&engine, process->pid, (uint32_t)fd, &ino)) >= 0; fd++) {
+    for (int64_t fd = 0; (fd = jw_next_fd(&engine, process->pid, (uint32_t)fd, &ino)) >= 0; fd++)
         inos[fd] = ino;
-        count++;
-    }
-    return count;
 }
 
 /* Notes at which numbers the kernel has files. Returns how many there are. */
-static off_t list_kernel(const struct process *process, bool *is_open) {
-    off_t count = 0;
+static size_t list_kernel(const struct process *process, bool *is_open) {
+    size_t count = 0;
     rewinddir(process->table);
     for (struct dirent *it; (it = readdir(process->table)) != NULL;) {
         if (it->d_name[0] == '.') continue;
@@ -56,34 +64,63 @@ static off_t list_kernel(const struct process *process, bool *is_open) {
     return count;
 }
 
-/* Opens in the layer what the program has opened by itself, and closes what an exec(2) has closed.
- * All else that closes is served, so two tables with as many descriptors are the same. */
-void sync_table(struct process *process) {
+/* Whether the kernel has a file at that number. Returns false, too, where this cannot be told. */
+static bool is_open_there(const struct process *process, uint64_t fd) {
+    return syscall(SYS_kcmp, process->tgid, process->tgid, KCMP_FILE, fd, fd) == 0;
+}
+
+/* Opens the lowest free numbers in the layer: a program that has opened by itself has these, if
+ * nothing was closed meanwhile. Returns false where the kernel has no file at one of them. Else the
+ * tables are the same: they have as many. */
+static bool open_lowest_ones(struct process *process, size_t count) {
+    for (; count > 0; count--) {
+        long fd = open_lowest(process);
+        if (fd < 0) return false;
+        if (is_open_there(process, (uint64_t)fd)) continue;
+        close_fd(process, (uint32_t)fd);
+        return false;
+    }
+    return true;
+}
+
+/* Opens and closes in the layer until it has the numbers that the kernel has, and where a program
+ * may be another one, the same files. */
+static void sync_numbers(struct process *process, bool has_changed) {
     uint64_t inos[JW_MAX_NOFILE] = {0};
-    bool is_open[JW_MAX_NOFILE] = {false}, has_changed = process->has_changed;
-    struct stat table = {.st_size = 0}; /* Kernels before 6.2 leave it so. */
-    if (is_executing(process)) return;
-    off_t count = list_layer(process, inos);
-    int looks = process->closer != 0 ? MOST_LOOKS : 0; /* The kernel may not have closed yet. */
-    process->closer = 0;
-    while (fstat(dirfd(process->table), &table) == 0 && table.st_size > count && looks-- > 0)
-        usleep(LOOK_MICROSECONDS);
-    if (table.st_size == count && !has_changed) return;
-    if (has_changed) refresh_process(process);
-    process->has_changed = false;
-    if (list_kernel(process, is_open) == 0 && count > 0) {
+    bool is_open[JW_MAX_NOFILE] = {false};
+    if (list_kernel(process, is_open) == 0 && process->fd_count > 0) {
         if (!find_table(process)) return; /* All of it is over. */
         list_kernel(process, is_open);
     }
+    list_layer(process, inos);
     for (uint32_t fd = 0; fd < JW_MAX_NOFILE; fd++) {
         bool is_known = inos[fd] != 0;
         bool is_same = is_known && is_open[fd] &&
                        (!has_changed || is_there(process, fd, file_at(inos[fd])));
         if (is_known && !is_same) close_fd(process, fd);
         if (is_same || !is_open[fd]) continue;
-        long lowest = record(process->pid, jw_open(&engine, process->pid), "open");
+        long lowest = open_lowest(process);
         if (lowest >= 0) move_fd(process, (uint32_t)lowest, fd);
     }
+}
+
+/* Opens in the layer what the program has opened by itself, and closes what an exec(2) has closed.
+ * All else that closes is served, so two tables with as many descriptors are the same. */
+void sync_table(struct process *process) {
+    struct stat table = {.st_size = 0}; /* Kernels before 6.2 leave it so. */
+    bool has_changed = process->has_changed;
+    if (is_executing(process)) return;
+    int looks = process->closer != 0 ? MOST_LOOKS : 0; /* The kernel may not have closed yet. */
+    process->closer = 0;
+    size_t count = process->fd_count;
+    while (fstat(dirfd(process->table), &table) == 0 && (size_t)table.st_size > count && looks-- > 0)
+        usleep(LOOK_MICROSECONDS);
+    size_t size = (size_t)table.st_size;
+    if (!has_changed && (size == count || (size > count && open_lowest_ones(process, size - count))))
+        return;
+    if (has_changed) refresh_process(process);
+    process->has_changed = false;
+    sync_numbers(process, has_changed);
 }
 
 /* Returns a file of the table as it is now. Where a close(2) of another thread is not done yet, the
@@ -91,7 +128,7 @@ void sync_table(struct process *process) {
 struct file *sync_file(struct process *process, uint64_t fd) {
     sync_table(process);
     struct file *file = file_of(process, fd);
-    if (file != NULL) return file;
+    if (file != NULL || !process->has_threads) return file;
     process->has_changed = true;
     sync_table(process);
     return file_of(process, fd);
@@ -125,7 +162,7 @@ static long give(const struct call *call, struct file *file, int from, long to,
  * numbers, and chooses others if another thread opens or closes something beside this. Then the
  * layer follows. Returns how many there are, or a negative errno if there is none. */
 long install(struct call *call, uint32_t *fds, size_t count, bool closes_on_exec) {
-    const struct process *process = call->process;
+    struct process *process = call->process;
     long number = 0, installed = 0;
     for (size_t i = 0; i < count; i++) {
         number = give(call, file_of(process, fds[i]), -1, -1, closes_on_exec);

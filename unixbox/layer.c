@@ -41,9 +41,14 @@ static void inspect(void) {
     if (options.checks) counts.failed_checks += record(0, jw_check(&engine, &checked), "check") < 0;
     inspected = counts.steps;
     if (!options.verifies) return;
-    LIST_FOREACH(it, &processes, entries)
-        for (int64_t fd = 0; (fd = jw_next_fd(&engine, it->pid, (uint32_t)fd, &ino)) >= 0; fd++)
+    LIST_FOREACH(it, &processes, entries) {
+        size_t count = 0;
+        for (int64_t fd = 0; (fd = jw_next_fd(&engine, it->pid, (uint32_t)fd, &ino)) >= 0; fd++) {
             file_at(ino)->places++;
+            count++;
+        }
+        counts.wrong_counts += !it->is_over && count != it->fd_count;
+    }
     ino = 0;
     while (jw_next_after(&engine, ino, &ino) == 0 && ino != 0) {
         struct file *file = file_at(ino);

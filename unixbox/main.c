@@ -53,7 +53,7 @@ int main(int argc, char **argv) {
     long pid = record(0, jw_spawn(&engine, geteuid(), JW_MAX_NOFILE, is_root),
                       is_root ? "spawn %u %u priv" : "spawn %u %u", geteuid(), JW_MAX_NOFILE);
     const struct namespaces unknown = {.is_stale = true};
-    if (pid < 0 || add_process((uint32_t)pid, guard, unknown) < 0) err(FAILED, "the start");
+    if (pid < 0 || add_process((uint32_t)pid, 0, guard, unknown) < 0) err(FAILED, "the start");
     for (int i = 0; i < THREADS; i++)
         if (pthread_create(&threads[i], NULL, serve_calls, NULL) != 0) err(FAILED, "a thread");
     syscall(SYS_pidfd_send_signal, program, SIGCONT, NULL, 0);

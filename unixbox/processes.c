@@ -192,7 +192,8 @@ long serve_fork(struct call *call) {
     sync_table(call->process);
     long pid = record(call->pid, jw_fork(&engine, call->pid), "fork");
     if (pid < 0) return pid;
-    long result = add_process((uint32_t)pid, call->tid, namespaces);
+    size_t fd_count = call->process->fd_count;
+    long result = add_process((uint32_t)pid, fd_count, call->tid, namespaces);
     return result < 0 ? result : KERNEL_DOES_IT;
 }
 

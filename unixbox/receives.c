@@ -28,6 +28,7 @@ static long take_queued(const struct call *call, size_t length, size_t room) {
     long result = record(call->pid, answer, "%s %u %zu %zu", peeks ? "peek" : "recv", call->fd,
                          length, room);
     message.fd_count = got.fds;
+    call->process->fd_count += got.fds;
     message.header.msg_flags |= got.ctrunc ? MSG_CTRUNC : 0;
     is_collection_due = is_collection_due || got.ctrunc;
     return result < 0 ? result : 0;

@@ -60,6 +60,7 @@ long serve_socket(struct call *call) {
     for (size_t i = 0; result < 0 && i < count; i++)
         close(hosts[i]);
     if (result < 0) return result;
+    call->process->fd_count += count;
     uint32_t fds[] = {is_pair ? pair.first : (uint32_t)result, pair.second};
     for (size_t i = 0; i < count; i++) {
         struct file *file = file_of(call->process, fds[i]);
@@ -239,6 +240,7 @@ long serve_accept(struct call *call) {
     if (result == -EAGAIN && (call->file->shut & 1)) return -EINVAL; /* None is to come. */
     if (result < 0) return result == -EAGAIN ? wait_for(call, 0, call->file->ino) : result;
     uint32_t fd = (uint32_t)result;
+    call->process->fd_count++;
     struct file *file = file_of(call->process, fd);
     file->is_embryo = false;
     int host = -1;

@@ -64,6 +64,7 @@ struct status {
 struct process {
     pid_t tgid;           /* The host's number. 0 until it is known. */
     uint32_t pid;         /* The layer's number. */
+    size_t fd_count;      /* How many descriptors the layer has open for it. */
     pid_t forker;         /* The thread that forked it. */
     int pidfd, spare;     /* Until it is bound, these keep back what its binding takes. */
     DIR *table;           /* /proc/TGID/fd, or that of a thread where the first one is over. */
@@ -205,7 +206,7 @@ bool is_pending(const struct call *call);
 bool read_memory(const struct call *call, void *to, uint64_t from, size_t length);
 bool write_memory(const struct call *call, uint64_t to, const void *from, size_t length);
 
-long add_process(uint32_t pid, pid_t forker, struct namespaces namespaces);
+long add_process(uint32_t pid, size_t fd_count, pid_t forker, struct namespaces namespaces);
 void bind_children(pid_t caller);
 
 const char *read_all(pid_t tid, const char *name);
@@ -288,7 +289,7 @@ bool take_reset(const struct file *file);
 long write_address(const struct call *call, uint64_t at, uint64_t length_at,
                    const struct address *address);
 
-void close_fd(const struct process *process, uint32_t fd);
+void close_fd(struct process *process, uint32_t fd);
 void sync_table(struct process *process);
 struct file *sync_file(struct process *process, uint64_t fd);
 long install(struct call *call, uint32_t *fds, size_t count, bool closes_on_exec);
