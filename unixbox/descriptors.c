@@ -213,11 +213,11 @@ long serve_old_limit(struct call *call) {
 long serve_dup(struct call *call) {
     bool is_fcntl = call->number == SYS_fcntl, is_dup3 = call->number == SYS_dup3;
     bool is_fixed = is_dup3 || call->number == SYS_dup2;
-    bool closes_on_exec = is_fcntl ? call->args[1] == F_DUPFD_CLOEXEC
-                                   : is_dup3 && (call->args[2] & O_CLOEXEC);
-    uint64_t from = is_fcntl ? call->args[2] : 0, to = call->args[1];
-    if (is_fcntl && call->args[1] == F_SETFL && (call->args[2] & O_ASYNC)) tell_edges();
-    if (is_fcntl && !closes_on_exec && call->args[1] != F_DUPFD) return KERNEL_DOES_IT;
+    int command = is_fcntl ? (int)call->args[1] : F_DUPFD;
+    bool closes_on_exec = command == F_DUPFD_CLOEXEC || (is_dup3 && (call->args[2] & O_CLOEXEC));
+    uint64_t from = is_fcntl ? call->args[2] : 0, to = (uint32_t)call->args[1];
+    if (command == F_SETFL && (call->args[2] & O_ASYNC)) tell_edges();
+    if (command != F_DUPFD && command != F_DUPFD_CLOEXEC) return KERNEL_DOES_IT;
     struct file *file = sync_file(call->process, call->fd);
     if (file == NULL || (is_fixed && (call->fd == to || to >= JW_MAX_NOFILE)) ||
         (is_dup3 && (call->args[2] & ~(uint64_t)O_CLOEXEC)))

@@ -3,6 +3,7 @@
 #include <linux/audit.h>
 #include <linux/filter.h>
 #include <stdatomic.h>
+#include <sys/wait.h>
 
 enum { RESTART = -512, MOST_NUMBERS = 512, MOST_LOOKS = 200, MOST_CALLS = 64 };
 #define NEVER UINT64_MAX /* A deadline. */
@@ -57,20 +58,53 @@ static handler *const handlers[MOST_NUMBERS] = {
     [SYS_epoll_create1] = serve_epoll,
 };
 
+/* What an argument of a call has to be, or has bits of, so that the filter hands the call over. Of
+ * several conditions for a number, one is enough. The kernel, too, looks at these 32 bits alone. */
+static const struct condition {
+    uint16_t number, argument, test; /* BPF_JEQ or BPF_JSET */
+    uint32_t word;
+} conditions[] = {
+    {SYS_fcntl, 1, BPF_JEQ, F_DUPFD}, {SYS_fcntl, 1, BPF_JEQ, F_DUPFD_CLOEXEC},
+    {SYS_fcntl, 2, BPF_JSET, O_ASYNC}, {SYS_ioctl, 1, BPF_JEQ, FIONREAD},
+    {SYS_ioctl, 1, BPF_JEQ, FIOASYNC}, {SYS_socket, 0, BPF_JEQ, AF_UNIX},
+    {SYS_socketpair, 0, BPF_JEQ, AF_UNIX}, {SYS_getsockopt, 1, BPF_JEQ, SOL_SOCKET},
+    {SYS_setsockopt, 1, BPF_JEQ, SOL_SOCKET}, {SYS_prctl, 0, BPF_JEQ, PR_SET_DUMPABLE},
+    {SYS_prlimit64, 1, BPF_JEQ, RLIMIT_NOFILE}, {SYS_setrlimit, 0, BPF_JEQ, RLIMIT_NOFILE},
+    {SYS_wait4, 2, BPF_JEQ, 0}, {SYS_waitid, 3, BPF_JEQ, WEXITED},
+};
+enum { CONDITIONS = sizeof conditions / sizeof *conditions };
+
+/* Adds the code for a call of this number, which the accumulator has. */
+static void add_number(struct sock_fprog *to, unsigned number) {
+    const struct sock_filter hand_over = BPF_STMT(BPF_RET | BPF_K, SECCOMP_RET_USER_NOTIF);
+    unsigned start = to->len++;
+    for (const struct condition *it = conditions; it < conditions + CONDITIONS; it++) {
+        uint32_t at = offsetof(struct seccomp_data, args) + it->argument * sizeof(uint64_t);
+        const struct sock_filter load = BPF_STMT(BPF_LD | BPF_W | BPF_ABS, at);
+        const struct sock_filter test = BPF_JUMP(BPF_JMP | it->test | BPF_K, it->word, 0, 1);
+        if (it->number != number) continue;
+        to->filter[to->len++] = load;
+        to->filter[to->len++] = test;
+        to->filter[to->len++] = hand_over;
+    }
+    bool has_any = to->len > start + 1;
+    const struct sock_filter allow = BPF_STMT(BPF_RET | BPF_K, SECCOMP_RET_ALLOW);
+    to->filter[to->len++] = has_any ? allow : hand_over;
+    uint8_t length = (uint8_t)(to->len - start - 1);
+    to->filter[start] = (struct sock_filter)BPF_JUMP(BPF_JMP | BPF_JEQ | BPF_K, number, 0, length);
+}
+
 /* Installs the filter in this process. Returns the descriptor of its notifications. */
 int install_filter(void) {
-    static struct sock_filter code[2 * MOST_NUMBERS] = {
+    static struct sock_filter code[2 * MOST_NUMBERS + 4 * CONDITIONS] = {
         BPF_STMT(BPF_LD | BPF_W | BPF_ABS, offsetof(struct seccomp_data, arch)),
         BPF_JUMP(BPF_JMP | BPF_JEQ | BPF_K, AUDIT_ARCH_X86_64, 0, 2),
         BPF_STMT(BPF_LD | BPF_W | BPF_ABS, offsetof(struct seccomp_data, nr)),
         BPF_JUMP(BPF_JMP | BPF_JGE | BPF_K, MOST_NUMBERS, 0, 1), /* A number of another ABI. */
         BPF_STMT(BPF_RET | BPF_K, SECCOMP_RET_ERRNO | ENOSYS)};
     struct sock_fprog all = {5, code};
-    for (unsigned number = 0; number < MOST_NUMBERS; number++) {
-        if (socket_handlers[number] == NULL && handlers[number] == NULL) continue;
-        code[all.len++] = (struct sock_filter)BPF_JUMP(BPF_JMP | BPF_JEQ | BPF_K, number, 0, 1);
-        code[all.len++] = (struct sock_filter)BPF_STMT(BPF_RET | BPF_K, SECCOMP_RET_USER_NOTIF);
-    }
+    for (unsigned number = 0; number < MOST_NUMBERS; number++)
+        if (socket_handlers[number] != NULL || handlers[number] != NULL) add_number(&all, number);
     code[all.len++] = (struct sock_filter)BPF_STMT(BPF_RET | BPF_K, SECCOMP_RET_ALLOW);
     if (geteuid() != 0) prctl(PR_SET_NO_NEW_PRIVS, 1, 0, 0, 0);
     return (int)syscall(SYS_seccomp, SECCOMP_SET_MODE_FILTER, SECCOMP_FILTER_FLAG_NEW_LISTENER |
@@ -213,8 +247,11 @@ static void serve_arrival(const struct arrival *arrival) {
 
 /* Whether a call is served sooner than another thread would be there to receive the next one. */
 static bool is_quick(int number) {
+    handler *serve = socket_handlers[number];
+    bool is_short = serve == serve_unread || serve == serve_name || serve == serve_get_option;
     bool is_checked = options.verifies || options.checks || options.collector == COLLECT_PASSES;
-    return is_alone || (!is_checked && (moves_bytes(number) || number == SYS_close));
+    is_short = is_short || moves_bytes(number) || number == SYS_close;
+    return is_alone || (is_short && !is_checked);
 }
 
 /* Takes the lock. Who tries to have it soon gives way: one thread could have it again and again. */
