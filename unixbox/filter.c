@@ -337,6 +337,7 @@ static uint64_t deadline_of(const struct call *call, int host) {
     handler *serve = socket_handlers[call->number];
     int option = serve == serve_recv || serve == serve_accept ? SO_RCVTIMEO : SO_SNDTIMEO;
     struct timeval limit = {0, 0};
+    if (call->file == NULL || !call->file->may_give_up) return NEVER;
     getsockopt(host, SOL_SOCKET, option, &limit, &(socklen_t){sizeof limit});
     uint64_t wait = (uint64_t)limit.tv_sec * 1000 + (uint64_t)limit.tv_usec / 1000;
     return wait > 0 ? now() + wait + 1 : NEVER;

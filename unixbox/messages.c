@@ -2,6 +2,8 @@
  * so longer sends on a stream, and receives with MSG_WAITALL, are served in parts. */
 #include "unixbox.h"
 
+enum { PAGE = 4096, NEAR = 1024 };
+
 struct message message;
 
 /* Returns descriptors as a line of the script has them. */
@@ -14,11 +16,35 @@ static const char *fds_text(const uint32_t *fds, size_t count) {
     return text;
 }
 
+/* Memory of a caller around its msghdr. As a rule, that is on a stack, with all that it points to:
+ * then one system call reads all of it. */
+static struct {
+    uint64_t at;
+    size_t length;
+    char bytes[2 * NEAR];
+} near;
+
+/* Reads what is near a msghdr, within its page, so that all of it can be read or nothing. */
+static void read_near(const struct call *call, uint64_t header) {
+    uint64_t start = header & ~(uint64_t)(PAGE - 1), end = start + PAGE;
+    if (header - start > NEAR) start = header - NEAR;
+    if (end - header > NEAR) end = header + NEAR;
+    near.at = start;
+    near.length = read_memory(call, near.bytes, start, end - start) ? end - start : 0;
+}
+
+/* Copies what is known to be at an address. Returns false where it is to be read. */
+static bool copy_near(void *to, uint64_t from, size_t length) {
+    bool is_near = from >= near.at && length <= near.length && from - near.at <= near.length - length;
+    if (is_near) memcpy(to, near.bytes + (from - near.at), length);
+    return is_near || length == 0;
+}
+
 /* Finds where a call's bytes are, and its flags: in a msghdr, in a vector, or in its arguments. */
 static long read_header(const struct call *call) {
     struct msghdr *header = &message.header;
     const uint64_t *args = call->args;
-    message.at = message.flags = 0;
+    message.at = message.flags = near.length = 0;
     message.parts[0] = (struct iovec){(void *)args[1], args[2]};
     *header = (struct msghdr){.msg_iov = (void *)args[1], .msg_iovlen = args[2]};
     switch (call->number) {
@@ -26,7 +52,9 @@ static long read_header(const struct call *call) {
     case SYS_recvmsg:
         message.at = args[1];
         message.flags = (int)args[2];
-        return read_memory(call, header, message.at, sizeof *header) ? 0 : -EFAULT;
+        read_near(call, message.at);
+        return copy_near(header, message.at, sizeof *header) ||
+               read_memory(call, header, message.at, sizeof *header) ? 0 : -EFAULT;
     case SYS_preadv2:
     case SYS_pwritev2:
         message.flags = args[5] & RWF_NOWAIT ? MSG_DONTWAIT : 0;
@@ -52,7 +80,9 @@ static long read_parts(const struct call *call) {
     size_t size = header->msg_iov != NULL ? header->msg_iovlen * sizeof *message.parts : 0;
     if (header->msg_iovlen > IOV_MAX) return message.at != 0 ? -EMSGSIZE : -EINVAL;
     if (length > sizeof message.control) return -ENOBUFS;
-    if (size + length == 0) return 0;
+    if (copy_near(message.parts, (uint64_t)header->msg_iov, size) &&
+        copy_near(message.control, (uint64_t)header->msg_control, length))
+        return 0;
     const struct iovec here[] = {{message.parts, size}, {message.control, length}};
     const struct iovec there[] = {{header->msg_iov, size}, {header->msg_control, length}};
     ssize_t read = process_vm_readv(call->tid, here, 2, there, 2, 0);
@@ -165,6 +195,15 @@ long send_bytes(struct call *call) {
     return result;
 }
 
+/* Reads the bytes of a message, or of a part of it. */
+static bool read_bytes(const struct call *call) {
+    const struct iovec here = {message.bytes, message.length}, *parts = message.parts;
+    size_t count = message.header.msg_iovlen;
+    if (count == 1 && copy_near(message.bytes, (uint64_t)parts->iov_base, message.length))
+        return true;
+    return process_vm_readv(call->tid, &here, 1, parts, count, 0) == (ssize_t)message.length;
+}
+
 long serve_send(struct call *call) {
     const struct file *peer = peer_of(call->file);
     long result = read_message(call);
@@ -172,9 +211,7 @@ long serve_send(struct call *call) {
     if (result == 0) result = refusal_of_send(call, peer);
     if (result == 0) result = copy_files(call->process);
     if (result < 0) return result;
-    struct iovec here = {message.bytes, message.length};
-    result = process_vm_readv(call->tid, &here, 1, message.parts, message.header.msg_iovlen, 0);
-    if (result != (long)message.length) return -EFAULT;
+    if (!read_bytes(call)) return -EFAULT;
     result = send_bytes(call);
     bool is_part = result >= 0 && (size_t)result < message.total;
     return is_part ? serve_send(call) : result;

@@ -10,11 +10,12 @@ enum { USER_SPACE = CMSG_SPACE(sizeof(struct ucred)) };
 long look(const struct call *call, size_t length, size_t *queued) {
     struct jw_received got = {0, false, false};
     int64_t answer = jw_peek(&engine, call->pid, call->fd, message.bytes, length, NULL, 0, &got);
-    bool is_stream = call->file->kind == JW_STREAM, has_files = got.ctrunc;
+    bool is_stream = call->file->kind == JW_STREAM;
     size_t held = 0;
+    message.has_files = got.ctrunc; /* There was no room for them. */
     *queued = answer > 0 ? (size_t)answer : 0;
     if (answer < 0 && answer != -JW_EAGAIN) return -jw_errno(answer);
-    if (*queued == 0 || (is_stream && !has_files)) /* Descriptors end a receive. */
+    if (*queued == 0 || (is_stream && !message.has_files)) /* Descriptors end a receive. */
         held = copy_held(call->file, message.bytes + *queued, length - *queued);
     return *queued + held > 0 ? (long)(*queued + held) : -jw_errno(answer);
 }
@@ -78,6 +79,7 @@ static long receive(struct call *call, size_t room, bool has_user) {
     if (is_packet && take_reset(file)) return -ECONNRESET;
     long result = look(call, length, &queued);
     if (result <= 0) return receive_nothing(call, result);
+    if (message.has_files && room > 0) sync_table(call->process);
     length = lesser((size_t)result, message.length);
     struct iovec here = {message.bytes, length};
     ssize_t written = process_vm_writev(call->tid, &here, 1, message.parts,
@@ -109,16 +111,23 @@ static size_t add_control(size_t used, int type, const void *data, size_t size) 
     return lesser(used + CMSG_SPACE(size), message.header.msg_controllen);
 }
 
-/* Writes so much control data. Returns how much of it could be written. */
+/* Writes so much control data, and its length and the flags into the msghdr. Returns how much of the
+ * control data could be written. */
 static size_t write_control(const struct call *call, size_t length) {
-    struct iovec here = {message.control, length}, there = {message.header.msg_control, length};
-    ssize_t written = length > 0 ? process_vm_writev(call->tid, &here, 1, &there, 1, 0) : 0;
-    return written > 0 ? (size_t)written : 0;
+    struct msghdr header = message.header;
+    const size_t start = offsetof(struct msghdr, msg_controllen), size = sizeof header - start;
+    struct iovec here[] = {{message.control, length}, {(char *)&header + start, size}};
+    struct iovec there[] = {{header.msg_control, length}, {(char *)message.at + start, size}};
+    header.msg_controllen = length;
+    ssize_t written = process_vm_writev(call->tid, here, 2, there, 2, 0);
+    if (written != (ssize_t)(length + size))
+        write_memory(call, message.at + start, here[1].iov_base, size);
+    return written > 0 ? lesser((size_t)written, length) : 0;
 }
 
 /* Writes control data with the numbers of descriptors, and gives the caller those whose numbers are
- * written. Linux closes the others, too. Returns the length of all control data. */
-static size_t give_files(struct call *call, size_t used) {
+ * written. Linux closes the others, too. */
+static void give_files(struct call *call, size_t used) {
     uint32_t expected[JW_MAX_FD];
     size_t count = message.fd_count, size = count * sizeof *expected, start = used + CMSG_LEN(0);
     memcpy(expected, message.fds, size);
@@ -128,11 +137,10 @@ static size_t give_files(struct call *call, size_t used) {
     for (size_t i = places; i < count; i++) close_fd(call->process, message.fds[i]);
     long given = install(call, message.fds, places, message.flags & MSG_CMSG_CLOEXEC);
     size_t given_size = given > 0 ? (size_t)given * sizeof *expected : 0;
-    if (given_size == size && memcmp(message.fds, expected, size) == 0) return end;
+    if (given_size == size && memcmp(message.fds, expected, size) == 0) return;
     message.header.msg_flags |= given_size < size ? MSG_CTRUNC : 0;
     end = given > 0 ? add_control(used, SCM_RIGHTS, message.fds, given_size) : used;
     write_control(call, end);
-    return end;
 }
 
 /* Writes the name of the sender where a receive asks for it. It is empty where there is none. */
@@ -149,17 +157,13 @@ static void write_sender(const struct call *call) {
 
 /* Writes what a receive by a msghdr tells beside its bytes, and gives its descriptors. */
 static void write_header(struct call *call, bool has_user) {
-    const size_t start = offsetof(struct msghdr, msg_controllen);
-    struct msghdr *header = &message.header;
     struct ucred user = {0}; /* At the end. */
     if (has_user && !message.is_end) user = user_told_to(call, call->sender);
     size_t used = has_user ? add_control(0, SCM_CREDENTIALS, &user, sizeof user) : 0;
     if (message.fd_count > 0)
-        used = give_files(call, used);
+        give_files(call, used);
     else
         write_control(call, used);
-    header->msg_controllen = used;
-    write_memory(call, message.at + start, (char *)header + start, sizeof *header - start);
 }
 
 /* Whether a receive ends with this part. Descriptors end it, too. */
@@ -180,7 +184,6 @@ long serve_recv(struct call *call) {
     message.is_end = false;
     size_t room = message.header.msg_controllen, other = CMSG_LEN(0) + (has_user ? USER_SPACE : 0);
     room = room > other ? (room - other) / sizeof(int) : 0;
-    if (room > 0) sync_table(call->process);
     result = receive(call, lesser(room, JW_MAX_FD), has_user);
     if (result < 0 || (result == 0 && call->moved > 0)) return result;
     write_sender(call);

@@ -32,6 +32,11 @@ static long serve_kept_option(int option) {
     return is_refused ? -ENOPROTOOPT : KERNEL_DOES_IT;
 }
 
+static bool is_timeout(int option) {
+    return option == SO_RCVTIMEO_OLD || option == SO_RCVTIMEO_NEW || option == SO_SNDTIMEO_OLD ||
+           option == SO_SNDTIMEO_NEW;
+}
+
 /* setsockopt(2). A placeholder keeps its buffer: it is as large as the layer's queue. */
 long serve_set_option(struct call *call) {
     struct file *file = call->file;
@@ -39,6 +44,7 @@ long serve_set_option(struct call *call) {
     bool is_buffer = option == SO_SNDBUF || option == SO_SNDBUFFORCE;
     bool is_heeded = is_buffer || option == SO_PASSCRED || option == SO_RCVLOWAT;
     if ((int)call->args[1] != SOL_SOCKET) return KERNEL_DOES_IT;
+    file->may_give_up |= is_timeout(option);
     if (!is_heeded) return serve_kept_option(option);
     if ((int)call->args[4] < (int)sizeof value) return -EINVAL;
     if (!read_memory(call, &value, call->args[3], sizeof value)) return -EFAULT;

@@ -113,6 +113,7 @@ struct file {
     bool passes_users;    /* SO_PASSCRED */
     size_t send_buffer;   /* SO_SNDBUF, or 0 until it is asked for. */
     size_t low_water;     /* SO_RCVLOWAT */
+    bool may_give_up;     /* SO_RCVTIMEO or SO_SNDTIMEO may be set. */
     TAILQ_HEAD(parcel_list, parcel) queue; /* The messages that it has not received, in order. */
     struct parcel *held;  /* The first of them that is held back, or NULL. */
     size_t charge;        /* What all of them take of a send buffer. */
@@ -159,6 +160,7 @@ extern struct message {
     uint8_t bytes[JW_MAX_BYTES];
     _Alignas(struct cmsghdr) char control[MOST_CONTROL];
     struct ucred user; /* SCM_CREDENTIALS */
+    bool has_files;    /* What is next to receive has descriptors. */
     bool is_end;       /* Nothing is left, and nobody sends more. */
 } message;
 long read_message(struct call *call);
