@@ -56,6 +56,21 @@ recounts() {
     grep -A 1 " dup2 1 9\$" "$room/steps" | grep -q "^check\$" || fails "no recount after a dup2"
 }
 
+# A filter can tell calls that do not concern the layer.
+spares() {
+    timeout 60 "$1" -- "$room/spared" > "$room/layer" 2> "$room/said" || fails "status $?: spared"
+    [ "$(sed -n 's/^unixbox: \([0-9]*\) calls.*/\1/p' "$room/said")" -lt 1000 ] || fails "calls are not spared"
+}
+
+# An instance of epoll(7) that is inherited tells edges, too.
+inherits() {
+    timeout 60 python3 -c 'import os, select, sys
+one = select.epoll()
+os.set_inheritable(one.fileno(), True)
+os.execv(sys.argv[1], sys.argv[1:] + [str(one.fileno())])' "$1" -- "$room/readiness" epoll \
+        > "$room/layer" 2> "$room/said" || fails "status $?: an inherited epoll"
+}
+
 # Runs unixbox. It ends with this status, and says this.
 answers() {
     status=0
@@ -90,6 +105,9 @@ plays() {
     for name in waits processes children paths credentials; do
         same "$1" "" "$room/$name"
     done
+    for word in "" epoll fcntl ioctl; do
+        same "$1" "$user" "$room/readiness" $word
+    done
     (ulimit -n 256 && same "$1" "$user" "$room/children" full)
     same "$1" "" python3 tests/unixbox/descriptors.py
     if timeout 60 "$1" --gc=none -- "$room/descriptors" cycle > "$room/layer" 2> "$room/said"; then
@@ -101,7 +119,7 @@ plays() {
 }
 
 for name in notification descriptors arguments senders addresses room options moves waits processes \
-    children paths credentials cost; do
+    children paths credentials readiness spared cost; do
     $cc $checks -pedantic "tests/unixbox/$name.c" -o "$room/$name" -lpthread
 done
 $cc -nostdlib -static tests/unixbox/pause.c -o "$room/pause"
@@ -113,6 +131,8 @@ build="$cc $checks -Iinclude unixbox/*.c $library -lpthread"
 $build -o "$room/unixbox"
 plays "$room/unixbox" ""
 recounts "$room/unixbox"
+spares "$room/unixbox"
+inherits "$room/unixbox"
 echo 'int main(void) { return 0; }' > "$room/empty.c"
 if $cc $sanitizers "$room/empty.c" -o "$room/empty" 2> "$room/why" && "$room/empty"; then
     $build $sanitizers -o "$room/unixbox_checked"

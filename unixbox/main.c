@@ -20,6 +20,7 @@ static void prepare(void) {
     umask(0); /* A pathname gets the mode that its program asks for. */
     prctl(PR_SET_CHILD_SUBREAPER, 1);
     read_own_namespaces();
+    look_for_epoll();
     if (jw_engine_new(&engine) < 0 || jw_tell_released(&engine) < 0 ||
         jw_tell_changed(&engine) < 0 || (watches = epoll_create1(EPOLL_CLOEXEC)) < 0 ||
         epoll_ctl(watches, EPOLL_CTL_ADD, notifications, &event) < 0)

@@ -137,6 +137,18 @@ void tell_edges(void) {
     tells_edges = true;
 }
 
+/* Looks for an instance of epoll(7) that the program inherits. */
+void look_for_epoll(void) {
+    char kind[32];
+    DIR *table = opendir("/proc/self/fd");
+    if (table == NULL) return tell_edges();
+    for (struct dirent *it; (it = readdir(table)) != NULL;) {
+        ssize_t length = readlinkat(dirfd(table), it->d_name, kind, sizeof kind);
+        if (length > 0 && memmem(kind, (size_t)length, "[eventpoll]", 11) != NULL) tell_edges();
+    }
+    closedir(table);
+}
+
 /* epoll_create(2) */
 long serve_epoll(struct call *call) {
     (void)call;

@@ -272,6 +272,7 @@ void touch(struct file *file);
 void refresh(struct file *file);
 void refresh_touched(void);
 void tell_edges(void);
+void look_for_epoll(void);
 
 bool is_same_user(const struct ucred *one, const struct ucred *other);
 void note_message(struct file *file, const struct ucred *sender, size_t length);

@@ -192,6 +192,24 @@ static const char *check_dumpable(void) {
     return "a program that is not dumpable has sockets";
 }
 
+/* The kernel looks at 32 bits of a word that is a number of a family, a command or a descriptor. */
+static const char *check_words(void) {
+    const long above = 1L << 32;
+    int pair[2];
+    make_pair(pair);
+    int copy = (int)syscall(SYS_fcntl, pair[0], above | F_DUPFD, 0);
+    int other = (int)syscall(SYS_dup2, pair[0], above | ABOVE);
+    MUST(copy >= 0 && other == ABOVE && write(pair[1], "xy", 2) == 2);
+    MUST(read(copy, text, 1) == 1 && text[0] == 'x');
+    MUST(read(other, text, 1) == 1 && text[0] == 'y');
+    MUST(close(copy) == 0 && close(other) == 0);
+    close_both(pair);
+    MUST(syscall(SYS_socketpair, above | AF_UNIX, SOCK_STREAM, 0, pair) == 0);
+    MUST(write(pair[1], "x", 1) == 1 && read(pair[0], text, 1) == 1 && text[0] == 'x');
+    close_both(pair);
+    return "what is above 32 bits is ignored";
+}
+
 int main(void) {
     setvbuf(stdout, NULL, _IOLBF, 0); /* No child inherits a line. */
     printf("flags: %s\n", check_flags());
@@ -205,5 +223,6 @@ int main(void) {
     printf("old limit: %s\n", check_old_limit());
     printf("unshare: %s\n", check_unshare());
     printf("dumpable: %s\n", check_dumpable());
+    printf("words: %s\n", check_words());
     return 0;
 }
