@@ -64,6 +64,13 @@ static size_t list_kernel(const struct process *process, bool *is_open) {
     return count;
 }
 
+/* Returns how many descriptors the kernel has, or 0 where it does not tell that (before 6.2). */
+static size_t count_there(const struct process *process) {
+    struct stat table = {.st_size = 0};
+    fstat(dirfd(process->table), &table);
+    return (size_t)table.st_size;
+}
+
 /* Whether the kernel has a file at that number. Returns false, too, where this cannot be told. */
 static bool is_open_there(const struct process *process, uint64_t fd) {
     return syscall(SYS_kcmp, process->tgid, process->tgid, KCMP_FILE, fd, fd) == 0;
@@ -107,17 +114,15 @@ static void sync_numbers(struct process *process, bool has_changed) {
 /* Opens in the layer what the program has opened by itself, and closes what an exec(2) has closed.
  * All else that closes is served, so two tables with as many descriptors are the same. */
 void sync_table(struct process *process) {
-    struct stat table = {.st_size = 0}; /* Kernels before 6.2 leave it so. */
     bool has_changed = process->has_changed;
     if (is_executing(process)) return;
     int looks = process->closer != 0 ? MOST_LOOKS : 0; /* The kernel may not have closed yet. */
     process->closer = 0;
-    size_t count = process->fd_count;
-    while (fstat(dirfd(process->table), &table) == 0 && (size_t)table.st_size > count && looks-- > 0)
+    size_t count = process->fd_count, size = count_there(process);
+    for (; size > count && looks > 0; looks--, size = count_there(process))
         usleep(LOOK_MICROSECONDS);
-    size_t size = (size_t)table.st_size;
-    if (!has_changed && (size == count || (size > count && open_lowest_ones(process, size - count))))
-        return;
+    if (!has_changed && size == count) return;
+    if (!has_changed && size > count && open_lowest_ones(process, size - count)) return;
     if (has_changed) refresh_process(process);
     process->has_changed = false;
     sync_numbers(process, has_changed);

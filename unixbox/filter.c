@@ -59,18 +59,23 @@ static handler *const handlers[MOST_NUMBERS] = {
 };
 
 /* What an argument of a call has to be, or has bits of, so that the filter hands the call over. Of
- * several conditions for a number, one is enough. The kernel, too, looks at these 32 bits alone. */
+ * several conditions for a number, one is enough; but some want the next one, too. The kernel, too,
+ * looks at these 32 bits alone. */
 static const struct condition {
     uint16_t number, argument, test; /* BPF_JEQ or BPF_JSET */
     uint32_t word;
+    bool wants_next;
 } conditions[] = {
-    {SYS_fcntl, 1, BPF_JEQ, F_DUPFD}, {SYS_fcntl, 1, BPF_JEQ, F_DUPFD_CLOEXEC},
-    {SYS_fcntl, 2, BPF_JSET, O_ASYNC}, {SYS_ioctl, 1, BPF_JEQ, FIONREAD},
-    {SYS_ioctl, 1, BPF_JEQ, FIOASYNC}, {SYS_socket, 0, BPF_JEQ, AF_UNIX},
-    {SYS_socketpair, 0, BPF_JEQ, AF_UNIX}, {SYS_getsockopt, 1, BPF_JEQ, SOL_SOCKET},
-    {SYS_setsockopt, 1, BPF_JEQ, SOL_SOCKET}, {SYS_prctl, 0, BPF_JEQ, PR_SET_DUMPABLE},
-    {SYS_prlimit64, 1, BPF_JEQ, RLIMIT_NOFILE}, {SYS_setrlimit, 0, BPF_JEQ, RLIMIT_NOFILE},
-    {SYS_wait4, 2, BPF_JEQ, 0}, {SYS_waitid, 3, BPF_JEQ, WEXITED},
+    {SYS_fcntl, 1, BPF_JEQ, F_DUPFD, false}, {SYS_fcntl, 1, BPF_JEQ, F_DUPFD_CLOEXEC, false},
+    {SYS_fcntl, 1, BPF_JEQ, F_SETFL, true}, {SYS_fcntl, 2, BPF_JSET, O_ASYNC, false},
+    {SYS_ioctl, 1, BPF_JEQ, FIONREAD, false}, {SYS_ioctl, 1, BPF_JEQ, FIOASYNC, false},
+    {SYS_socket, 0, BPF_JEQ, AF_UNIX, false}, {SYS_socketpair, 0, BPF_JEQ, AF_UNIX, false},
+    {SYS_getsockopt, 1, BPF_JEQ, SOL_SOCKET, false},
+    {SYS_setsockopt, 1, BPF_JEQ, SOL_SOCKET, false},
+    {SYS_prctl, 0, BPF_JEQ, PR_SET_DUMPABLE, false},
+    {SYS_prlimit64, 1, BPF_JEQ, RLIMIT_NOFILE, false},
+    {SYS_setrlimit, 0, BPF_JEQ, RLIMIT_NOFILE, false},
+    {SYS_wait4, 2, BPF_JEQ, 0, false}, {SYS_waitid, 3, BPF_JEQ, WEXITED, false},
 };
 enum { CONDITIONS = sizeof conditions / sizeof *conditions };
 
@@ -81,11 +86,12 @@ static void add_number(struct sock_fprog *to, unsigned number) {
     for (const struct condition *it = conditions; it < conditions + CONDITIONS; it++) {
         uint32_t at = offsetof(struct seccomp_data, args) + it->argument * sizeof(uint64_t);
         const struct sock_filter load = BPF_STMT(BPF_LD | BPF_W | BPF_ABS, at);
-        const struct sock_filter test = BPF_JUMP(BPF_JMP | it->test | BPF_K, it->word, 0, 1);
+        const uint8_t skipped = it->wants_next ? 3 : 1;
+        const struct sock_filter test = BPF_JUMP(BPF_JMP | it->test | BPF_K, it->word, 0, skipped);
         if (it->number != number) continue;
         to->filter[to->len++] = load;
         to->filter[to->len++] = test;
-        to->filter[to->len++] = hand_over;
+        if (!it->wants_next) to->filter[to->len++] = hand_over;
     }
     bool has_any = to->len > start + 1;
     const struct sock_filter allow = BPF_STMT(BPF_RET | BPF_K, SECCOMP_RET_ALLOW);
@@ -128,7 +134,7 @@ bool is_pending(const struct call *call) {
     return ioctl(notifications, SECCOMP_IOCTL_NOTIF_ID_VALID, &call->id) == 0;
 }
 
-/* Returns the answer to a call that ends so. Its caller is told by a signal, too, if it is to be. */
+/* Returns the answer to a call that ends so. The caller gets a signal, too, if it is to. */
 static long conclude_call(struct call *call, long result) {
     if (call->moved > 0) result = (long)call->moved; /* Whatever ended it. */
     if (call->raises_sigpipe && result == -EPIPE)
@@ -223,8 +229,8 @@ static bool moves_bytes(int number) {
     return serve == serve_send || serve == serve_recv;
 }
 
-/* Serves a call that was received. One that moves bytes touches its caller's memory first, which
- * fails where that is over: whether it is still there is asked only if others were served before. */
+/* Serves a call that was received. One that moves bytes first reads or writes its caller's memory,
+ * which fails where that is over. Whether it is there is asked if others were served meanwhile. */
 static void serve_arrival(const struct arrival *arrival) {
     const struct seccomp_notif *notif = &arrival->call;
     if (!is_alone) forget_ended(); /* A caller may have waited for a child that was killed. */

@@ -35,8 +35,9 @@ static void read_near(const struct call *call, uint64_t header) {
 
 /* Copies what is known to be at an address. Returns false where it is to be read. */
 static bool copy_near(void *to, uint64_t from, size_t length) {
-    bool is_near = from >= near.at && length <= near.length && from - near.at <= near.length - length;
-    if (is_near) memcpy(to, near.bytes + (from - near.at), length);
+    uint64_t place = from - near.at;
+    bool is_near = from >= near.at && length <= near.length && place <= near.length - length;
+    if (is_near) memcpy(to, near.bytes + place, length);
     return is_near || length == 0;
 }
 

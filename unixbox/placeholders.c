@@ -131,8 +131,8 @@ void refresh_touched(void) {
     }
 }
 
-/* Lets placeholders tell each message from now on: epoll(7) with EPOLLET or EPOLLEXCLUSIVE does, and
- * SIGIO. Where there is neither, a byte for a queue that is neither empty nor full is enough. */
+/* Lets placeholders tell each message from now on, which SIGIO and epoll(7) with EPOLLET or
+ * EPOLLEXCLUSIVE do. Without these, one byte is enough for a queue that is not full. */
 void tell_edges(void) {
     tells_edges = true;
 }

@@ -260,7 +260,8 @@ long serve_limit(struct call *call) {
     struct process *process = call->args[0] ? process_by((pid_t)call->args[0]) : call->process;
     struct rlimit limit = {0, 0}, old = {0, 0};
     bool is_set = read_memory(call, &limit, call->args[2], sizeof limit);
-    if ((unsigned)call->args[1] != RLIMIT_NOFILE || process == NULL || !is_set) return KERNEL_DOES_IT;
+    bool is_of_fds = (unsigned)call->args[1] == RLIMIT_NOFILE;
+    if (!is_of_fds || process == NULL || !is_set) return KERNEL_DOES_IT;
     if (limit.rlim_cur > JW_MAX_NOFILE) return -EPERM;
     prlimit(process->tgid, RLIMIT_NOFILE, NULL, &old);
     bool is_raised = limit.rlim_max > old.rlim_max && geteuid() != 0;

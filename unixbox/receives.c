@@ -111,8 +111,8 @@ static size_t add_control(size_t used, int type, const void *data, size_t size) 
     return lesser(used + CMSG_SPACE(size), message.header.msg_controllen);
 }
 
-/* Writes so much control data, and its length and the flags into the msghdr. Returns how much of the
- * control data could be written. */
+/* Writes so much control data, and its length and the flags into the msghdr. Returns how much of
+ * the control data could be written. */
 static size_t write_control(const struct call *call, size_t length) {
     struct msghdr header = message.header;
     const size_t start = offsetof(struct msghdr, msg_controllen), size = sizeof header - start;

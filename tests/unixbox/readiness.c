@@ -1,8 +1,9 @@
 /* Asks what sockets are ready for, between sends and receives, and says what comes out.
  *
- * A word says how each message is told: by epoll(7) with EPOLLET (epoll, and the number of an instance
- * if it is inherited), or by SIGIO that fcntl(2) or ioctl(2) asks for. Without one, only levels are
- * seen. Each check prints a line, the same natively and under unixbox. The status is 0 if all hold. */
+ * A word says how each message is told: by epoll(7) with EPOLLET (epoll, and the number of an
+ * instance that is inherited), or by SIGIO, which fcntl(2) or ioctl(2) asks for. Without a word only
+ * levels are seen. Each check prints a line, the same natively and under unixbox. The status is 0 if
+ * all hold. */
 #define _GNU_SOURCE
 #include "must.h"
 #include <fcntl.h>
