@@ -27,3 +27,5 @@ pub mod SocketChanges
 pub mod Shutdowns
 pub mod SocketWalks
 pub mod ClosedEnds
+pub mod OldWorlds
+pub mod OldReadings

@@ -12,3 +12,4 @@ pub mod Peeking
 pub mod Polling
 pub mod Telling
 pub mod Shutting
+pub mod Keeping

@@ -3,6 +3,7 @@
 #![tactic(auto)]
 
 pub mod connecting;
+pub mod keeping;
 pub mod numbering;
 pub mod peeking;
 pub mod places;
