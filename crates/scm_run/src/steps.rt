@@ -66,6 +66,7 @@ pub fn do_step(
         Verb::Recv => return recv(engine, pid, rest, text),
         Verb::Peek => return peek(engine, pid, rest, text),
         Verb::Limit => call!(push_done(text), engine.limit(pid; nofile), rest),
+        Verb::Shutdown => call!(push_done(text), engine.shutdown(pid; on, how), rest),
     }
     Ok(())
 }

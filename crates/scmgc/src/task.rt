@@ -50,8 +50,10 @@ pub enum Task<'a> {
 const OF_SCRIPTS: &str =
     "A script has one event or one report on each line, as 'spawn 1000 16' or 'check'.
 One whose first line is 'version 2' or 'version 3' may also have
-  P peek N N N   process P sees what it may receive: socket, most bytes, most descriptors
-  P limit N      process P has another limit on its descriptors";
+  P peek N N N      process P sees what it may receive: socket, most bytes, most descriptors
+  P limit N         process P has another limit on its descriptors
+and one whose first line is 'version 3'
+  P shutdown N HOW  process P closes ends of a socket: read, write or both";
 
 /// The help on playing.
 const OF_PLAYING: &str =

@@ -21,6 +21,7 @@ P send N BYTES N ..  send bytes and descriptors
 P recv N N N         receive: socket, most bytes, most descriptors
 P peek N N N         see what a receive would take (version 2)
 P limit N            set the limit on descriptors (version 2)
+P shutdown N HOW     close ends of a socket: read, write or both (version 3)
 begin                begin a pass of the collector
 slice N              continue it, by at most N units
 pass                 make a whole pass

@@ -41,3 +41,6 @@ returns-in-Some-accept c = step_done _ _ _ _ _ c.args.rest.now _ _ _ c.accept-in
 
 pub returns-in-Some-limit : goal.returns-in-Some-limit
 returns-in-Some-limit c = step_done _ _ _ _ _ c.args.rest.now _ _ _ c.limit-in-Limit.result (λ _. reply.Ok) c.in-Limit.is c.in-Some-limit.ensures c.limit-in-Limit.ensures.done c.limit-in-Limit.ensures.refused c.push_done-in-Limit.ensures
+
+pub returns-in-Some-shutdown : goal.returns-in-Some-shutdown
+returns-in-Some-shutdown c = step_done _ _ _ _ _ c.args.rest.now _ _ _ c.shutdown-in-Shutdown.result (λ _. reply.Ok) c.in-Shutdown.is c.in-Some-shutdown.ensures c.shutdown-in-Shutdown.ensures.done c.shutdown-in-Shutdown.ensures.refused c.push_done-in-Shutdown.ensures
