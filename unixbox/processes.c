@@ -5,9 +5,10 @@
 
 enum { MOST_TEXT = 1 << 20, MOST_LOOKS = 100 }; /* A status with 65,536 groups is shorter. */
 enum { NEW_NAMESPACES = CLONE_NEWUSER | CLONE_NEWNET | CLONE_NEWPID };
-enum { THREAD_PIDFD = O_EXCL, THREAD_SLOTS = 4096 }; /* PIDFD_THREAD of Linux 6.9. */
+enum { THREAD_PIDFD = O_EXCL, SLOTS = 4096 }; /* PIDFD_THREAD of Linux 6.9; a table's size. */
 
 struct process_list processes = LIST_HEAD_INITIALIZER(processes);
+static struct process *found[SLOTS]; /* By number modulo SLOTS: those that were looked up last. */
 
 /* Reads a file on a thread as a string, which is empty where there is none. The next call of this
  * writes over it. */
@@ -90,11 +91,14 @@ void refresh_process(struct process *process) {
     forget_credentials(process);
 }
 
+/* Returns the process of this number, or NULL. */
 struct process *process_by(pid_t tgid) {
-    struct process *it;
+    struct process **place = &found[(uint32_t)tgid % SLOTS], *it = *place;
+    if (tgid == 0) return NULL;
+    if (it != NULL && it->tgid == tgid) return it;
     LIST_FOREACH(it, &processes, entries)
-        if (it->tgid == tgid) break;
-    return it;
+        if (it->tgid == tgid) return *place = it;
+    return NULL;
 }
 
 /* Binds it to a process of the host. Where that is over, it exits. */
@@ -151,6 +155,8 @@ static void exit_process(struct process *process) {
 void forget_process(struct process *process) {
     exit_process(process);
     LIST_REMOVE(process, entries);
+    struct process **place = &found[(uint32_t)process->tgid % SLOTS];
+    if (*place == process) *place = NULL;
     wake(EVERYONE); /* Its calls end. */
     close(process->pidfd);
     if (process->spare >= 0) close(process->spare);
@@ -178,14 +184,14 @@ static bool is_thread_of(pid_t tid, pid_t tgid) {
 /* Returns the process of a thread, or NULL where it is over. As a rule, it is the one that the last
  * thread of this number was in. */
 struct process *process_of(pid_t tid) {
-    static pid_t last[THREAD_SLOTS];
-    pid_t *tgid = &last[tid % THREAD_SLOTS];
+    static pid_t last[SLOTS];
+    pid_t *tgid = &last[tid % SLOTS];
     struct status status;
     bind_children(tid);
     struct process *process = process_by(tid);
     if (process != NULL) return process;
     if (!is_thread_of(tid, *tgid)) *tgid = read_status(tid, &status) ? status.user.pid : 0;
-    return *tgid != 0 ? process_by(*tgid) : NULL;
+    return process_by(*tgid);
 }
 
 /* The layer forks at once; the host's number is bound when the child is there. */
