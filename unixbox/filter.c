@@ -14,6 +14,7 @@ static pthread_mutex_t receiving = PTHREAD_MUTEX_INITIALIZER;
 static TAILQ_HEAD(, call) waiting = TAILQ_HEAD_INITIALIZER(waiting);
 static TAILQ_HEAD(, call) woken = TAILQ_HEAD_INITIALIZER(woken);
 static TAILQ_HEAD(, call) done = TAILQ_HEAD_INITIALIZER(done); /* They are to be answered. */
+static bool has_one_process;
 static atomic_bool is_alone; /* There is one process, with one thread. */
 static atomic_int expected; /* How many threads wait for the lock in turn. */
 static atomic_ulong served; /* How many calls were served. */
@@ -233,7 +234,7 @@ static bool moves_bytes(int number) {
  * which fails where that is over. Whether it is there is asked if others were served meanwhile. */
 static void serve_arrival(const struct arrival *arrival) {
     const struct seccomp_notif *notif = &arrival->call;
-    if (!is_alone) forget_ended(); /* A caller may have waited for a child that was killed. */
+    if (!has_one_process) forget_ended(); /* A caller may have waited for a child that was killed. */
     struct call call = {.id = notif->id, .number = notif->data.nr, .tid = (pid_t)notif->pid,
                         .fd = (uint32_t)notif->data.args[0]};
     call.process = process_of(call.tid);
@@ -248,7 +249,8 @@ static void serve_arrival(const struct arrival *arrival) {
     collect();
     rerun_woken_calls();
     const struct process *first = LIST_FIRST(&processes);
-    is_alone = first != NULL && LIST_NEXT(first, entries) == NULL && !first->has_threads;
+    has_one_process = first != NULL && LIST_NEXT(first, entries) == NULL;
+    is_alone = has_one_process && !first->has_threads;
 }
 
 /* Whether a call is served sooner than another thread would be there to receive the next one. */

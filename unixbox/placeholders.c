@@ -1,6 +1,6 @@
 /* Placeholders: sockets of the host that stand for the layer's in tables of programs. They are
- * connected as the layer's are, and each message is a byte between two. Their buffers are so large
- * that one is writable exactly if the layer's queue is not full. */
+ * connected as the layer's are, and bytes between two stand for messages. Their buffers are so large
+ * that one is writable exactly if the peer's has fewer bytes than the layer's queue has room for. */
 #include "unixbox.h"
 
 struct file_list files[FILE_SLOTS];
