@@ -231,14 +231,15 @@ static bool moves_bytes(int number) {
 }
 
 /* Serves a call that was received. One that moves bytes first reads or writes its caller's memory,
- * which fails where that is over. Whether it is there is asked if others were served meanwhile. */
+ * which fails where that is over. Whether it is there is asked if others were served meanwhile, and
+ * for other calls where another thread may have ended it by an exec(2). */
 static void serve_arrival(const struct arrival *arrival) {
     const struct seccomp_notif *notif = &arrival->call;
     if (!has_one_process) forget_ended(); /* A caller may have waited for a child that was killed. */
     struct call call = {.id = notif->id, .number = notif->data.nr, .tid = (pid_t)notif->pid,
                         .fd = (uint32_t)notif->data.args[0]};
     call.process = process_of(call.tid);
-    call.is_sure = arrival->served == served && moves_bytes(call.number);
+    call.is_sure = arrival->served == served && (is_alone || moves_bytes(call.number));
     served++;
     memcpy(call.args, notif->data.args, sizeof call.args);
     if (call.process != NULL) call.pid = call.process->pid;

@@ -13,10 +13,17 @@ void *copy_of(const void *value, size_t size) {
     return memcpy(copy, value, size);
 }
 
+/* Returns the supervisor's limit, which it sets at its start only. */
+static long most_descriptors(void) {
+    static long most;
+    if (most == 0) most = sysconf(_SC_OPEN_MAX);
+    return most;
+}
+
 /* Returns a new descriptor of the supervisor, or closes it where fewer than `count` would be left
  * for other uses. Then the error is EMFILE. */
 int keep_back(int host, int count) {
-    if (host < 0 || host < sysconf(_SC_OPEN_MAX) - count) return host;
+    if (host < 0 || host < most_descriptors() - count) return host;
     close(host);
     errno = EMFILE;
     return -1;
@@ -69,7 +76,7 @@ void close_spare_placeholder(struct file *file) {
     if (state_of(file->ino).state != JW_HUNG_UP) return;
     jw_refs(&engine, file->ino, &refs);
     jw_inflight(&engine, file->ino, &inflight);
-    if (refs > inflight || file->host < sysconf(_SC_OPEN_MAX) / 2) return;
+    if (refs > inflight || file->host < most_descriptors() / 2) return;
     close(file->host);
     file->host = -1;
 }
