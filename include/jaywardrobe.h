@@ -85,10 +85,10 @@ enum jw_error {
     JW_ETOOMANYREFS = 8,  /* The user has too many descriptors in flight (unix(7)). */
     JW_ENOBUFS = 9,       /* All users together have too many descriptors in flight. */
     JW_ENOTCONN = 10,     /* The socket was never connected. */
-    JW_EPIPE = 11,        /* The peer is gone. */
+    JW_EPIPE = 11,        /* The peer is gone, or its input or the socket's output is closed. */
     JW_EISCONN = 12,      /* The socket is connected, or was. */
     JW_EADDRINUSE = 13,   /* A live socket has this name. */
-    JW_ECONNREFUSED = 14, /* No live socket of this name listens. */
+    JW_ECONNREFUSED = 14, /* No live socket of this name listens, or its input is closed. */
     JW_EPROTOTYPE = 15,   /* The listener is of the other type. */
     JW_ESRCH = 16,        /* No such process. */
     JW_ENOMEM = 17,       /* Memory ran out. */
@@ -131,6 +131,13 @@ enum jw_state {
     JW_HUNG_UP = 3    /* Was connected; the peer is gone. */
 };
 
+/* Which ends of a socket jw_shutdown closes. The numbers are those of sys/socket.h. */
+enum jw_how {
+    JW_SHUT_RD = 0,  /* SHUT_RD: its input. */
+    JW_SHUT_WR = 1,  /* SHUT_WR: its output. */
+    JW_SHUT_RDWR = 2 /* SHUT_RDWR: both. */
+};
+
 /* The descriptors of two connected sockets. */
 struct jw_pair {
     uint32_t first;  /* The lower descriptor. */
@@ -156,7 +163,7 @@ struct jw_ready {
     bool readable; /* Whether a receive of a byte, or an accept, has something to give, or the end
                     * to tell (POLLIN). */
     bool writable; /* Whether a send of a byte without descriptors has room (POLLOUT). */
-    bool hung_up;  /* Whether the peer is gone (POLLHUP). */
+    bool hung_up;  /* Whether the peer is gone, or both ends of the socket are closed (POLLHUP). */
 };
 
 /* A file. All fields but the kind are 0 where it is no socket. */
@@ -329,6 +336,13 @@ int64_t jw_bind(jw_engine *engine, uint32_t pid, uint32_t fd, const void *name, 
 JW_MUST_USE JW_NONNULL(1)
 int64_t jw_listen(jw_engine *engine, uint32_t pid, uint32_t fd, uint32_t backlog);
 
+/* Closes an end of a socket, or both (shutdown(2)): its input for JW_SHUT_RD, its output for
+ * JW_SHUT_WR, both for JW_SHUT_RDWR; and with them the peer's output or input. What waits can still
+ * be received. An end is never opened again. Answers 0.
+ * Errors: JW_EINVAL for another number, before all else; JW_ESRCH, JW_EBADF, JW_ENOTSOCK. */
+JW_MUST_USE JW_NONNULL(1)
+int64_t jw_shutdown(jw_engine *engine, uint32_t pid, uint32_t fd, uint32_t how);
+
 /* Connects a socket to the listener of this name, without waiting (connect(2)). The socket is
  * connected immediately, and the other end waits to be accepted. Answers 0.
  * Errors: JW_ESRCH, JW_EBADF, JW_ENOTSOCK, JW_EINVAL, JW_EISCONN, JW_ECONNREFUSED, JW_EPROTOTYPE,
@@ -348,7 +362,8 @@ int64_t jw_accept(jw_engine *engine, uint32_t pid, uint32_t fd);
  * SCM_RIGHTS; unix(7), cmsg(3)). The bytes are copied once. Memory is requested after all other
  * tests. Answers how many bytes were sent, which is all of them.
  * Errors: JW_ESRCH, JW_EBADF, JW_ENOTSOCK, JW_EINVAL, JW_EMSGSIZE, JW_EBADF for one of fds,
- * JW_ENOTCONN, JW_EPIPE, JW_ETOOMANYREFS, JW_ENOBUFS, JW_EAGAIN, JW_ENOMEM. */
+ * JW_ENOTCONN, JW_EPIPE where the peer is gone or the socket's output is closed, JW_ETOOMANYREFS,
+ * JW_ENOBUFS, JW_EPIPE where the peer's input is closed, JW_EAGAIN, JW_ENOMEM. */
 JW_MUST_USE JW_NONNULL(1)
 int64_t jw_send(jw_engine *engine, uint32_t pid, uint32_t fd, const void *bytes, size_t len,
                 const uint32_t *fds, size_t nfds);
@@ -356,7 +371,7 @@ int64_t jw_send(jw_engine *engine, uint32_t pid, uint32_t fd, const void *bytes,
 /* Receives at most len bytes, 1 or more, and at most nfds descriptors (recvmsg(2) with SCM_RIGHTS).
  * More room than 65536 bytes is taken for 65536. Writes the bytes and the new descriptors, and to
  * out how many descriptors there are and what did not fit. Answers how many bytes it wrote, or 0
- * where nothing is left and the peer is gone.
+ * where nothing is left, and the peer is gone or the socket's input closed.
  * A packet's bytes beyond len are dropped; a stream's wait for the next receive. Descriptors beyond
  * nfds or beyond the free ones are closed. Needs no memory for a packet that brings no descriptors,
  * or up to 4 where the highest below the process's limit is open.

@@ -29,13 +29,13 @@ pub enum Errno {
     ENOBUFS,
     /// The socket was never connected.
     ENOTCONN,
-    /// The peer is gone.
+    /// The peer is gone, or its input or the socket's output is closed.
     EPIPE,
     /// The socket is connected, or was.
     EISCONN,
     /// A live socket has this name.
     EADDRINUSE,
-    /// No live socket of this name listens.
+    /// No live socket of this name listens, or its input is closed.
     ECONNREFUSED,
     /// The listener is of the other type.
     EPROTOTYPE,

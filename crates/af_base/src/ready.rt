@@ -8,6 +8,6 @@ pub struct Ready {
     pub readable: bool,
     /// A send of a byte without descriptors has room (POLLOUT).
     pub writable: bool,
-    /// The peer was freed (POLLHUP).
+    /// The peer was freed, or both ends of the socket are closed (POLLHUP).
     pub hung_up: bool,
 }

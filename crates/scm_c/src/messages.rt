@@ -32,7 +32,8 @@ pub struct CReceived {
 /// tests. Answers how many bytes were sent, which is all of them.
 ///
 /// Errors: JW_ESRCH, JW_EBADF, JW_ENOTSOCK, JW_EINVAL, JW_EMSGSIZE, JW_EBADF for one of
-/// `fds`, JW_ENOTCONN, JW_EPIPE, JW_ETOOMANYREFS, JW_ENOBUFS, JW_EAGAIN, JW_ENOMEM.
+/// `fds`, JW_ENOTCONN, JW_EPIPE where the peer is gone or the socket's output is closed,
+/// JW_ETOOMANYREFS, JW_ENOBUFS, JW_EPIPE where the peer's input is closed, JW_EAGAIN, JW_ENOMEM.
 #[must_use]
 #[unsafe(no_mangle)]
 pub extern "C" fn jw_send(
@@ -71,7 +72,7 @@ fn push_first(fds: &[u32], first: &mut ArrayVec<Fd, MOST>)
 /// Receives at most `len` bytes, 1 or more, and at most `nfds` descriptors (recvmsg(2) with
 /// SCM_RIGHTS). More room than 65536 bytes is taken for 65536. Writes the bytes and the new
 /// descriptors, and to `out` how many descriptors there are and what did not fit. Answers how many
-/// bytes it wrote, or 0 where nothing is left and the peer is gone.
+/// bytes it wrote, or 0 where nothing is left, and the peer is gone or the socket's input closed.
 ///
 /// A packet's bytes beyond `len` are dropped; a stream's wait for the next receive. Descriptors
 /// beyond `nfds` or beyond the free ones are closed. Needs no memory for a packet that brings no

@@ -133,8 +133,8 @@ pub extern "C" fn jw_listen(
 }
 
 /// Closes an end of a socket, or both (shutdown(2)): its input for JW_SHUT_RD, its output for
-/// JW_SHUT_WR, both for JW_SHUT_RDWR; and with them the peer's output or input. What waits can still
-/// be received. An end is never opened again. Answers 0.
+/// JW_SHUT_WR, both for JW_SHUT_RDWR; and with them the peer's output or input. What waits can
+/// still be received. An end is never opened again. Answers 0.
 ///
 /// Errors: JW_EINVAL for another number, before all else; JW_ESRCH, JW_EBADF, JW_ENOTSOCK.
 #[must_use]

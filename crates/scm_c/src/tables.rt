@@ -73,7 +73,7 @@ pub struct CReady {
     pub readable: bool,
     /// Whether a send of a byte without descriptors has room (POLLOUT).
     pub writable: bool,
-    /// Whether the peer is gone (POLLHUP).
+    /// Whether the peer is gone, or both ends of the socket are closed (POLLHUP).
     pub hung_up: bool,
 }
 

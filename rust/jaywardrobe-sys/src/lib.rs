@@ -64,13 +64,13 @@ pub const JW_ETOOMANYREFS: i64 = 8;
 pub const JW_ENOBUFS: i64 = 9;
 /// The socket was never connected.
 pub const JW_ENOTCONN: i64 = 10;
-/// The peer is gone.
+/// The peer is gone, or its input or the socket's output is closed.
 pub const JW_EPIPE: i64 = 11;
 /// The socket is connected, or was.
 pub const JW_EISCONN: i64 = 12;
 /// A live socket has this name.
 pub const JW_EADDRINUSE: i64 = 13;
-/// No live socket of this name listens.
+/// No live socket of this name listens, or its input is closed.
 pub const JW_ECONNREFUSED: i64 = 14;
 /// The listener is of the other type.
 pub const JW_EPROTOTYPE: i64 = 15;
@@ -134,6 +134,15 @@ pub const JW_CONNECTED: u32 = 2;
 /// Was connected; the peer is gone.
 pub const JW_HUNG_UP: u32 = 3;
 
+// Which ends of a socket are closed, as numbered in sys/socket.h.
+
+/// SHUT_RD: its input.
+pub const JW_SHUT_RD: u32 = 0;
+/// SHUT_WR: its output.
+pub const JW_SHUT_WR: u32 = 1;
+/// SHUT_RDWR: both.
+pub const JW_SHUT_RDWR: u32 = 2;
+
 /// The descriptors of two connected sockets.
 #[repr(C)]
 #[derive(Clone, Copy, Debug, Default, PartialEq, Eq)]
@@ -175,7 +184,7 @@ pub struct jw_ready {
     pub readable: bool,
     /// Whether a send of a byte without descriptors has room (POLLOUT).
     pub writable: bool,
-    /// Whether the peer is gone (POLLHUP).
+    /// Whether the peer is gone, or both ends of the socket are closed (POLLHUP).
     pub hung_up: bool,
 }
 
@@ -277,6 +286,12 @@ unsafe extern "C" {
     ///
     /// Errors: JW_ESRCH, JW_EBADF, JW_ENOTSOCK, JW_EINVAL, JW_ENOMEM.
     pub fn jw_listen(engine: *mut jw_engine, pid: u32, fd: u32, backlog: u32) -> i64;
+    /// Closes an end of a socket, or both (shutdown(2)): its input for JW_SHUT_RD, its output for
+    /// JW_SHUT_WR, both for JW_SHUT_RDWR; and with them the peer's output or input. What waits can
+    /// still be received. An end is never opened again. Answers 0.
+    ///
+    /// Errors: JW_EINVAL for another number, before all else; JW_ESRCH, JW_EBADF, JW_ENOTSOCK.
+    pub fn jw_shutdown(engine: *mut jw_engine, pid: u32, fd: u32, how: u32) -> i64;
     /// Connects a socket to the listener of this name, without waiting (connect(2)). The socket is
     /// connected immediately, and the other end waits to be accepted. Answers 0.
     ///
@@ -299,7 +314,9 @@ unsafe extern "C" {
     /// other tests. Answers how many bytes were sent, which is all of them.
     ///
     /// Errors: JW_ESRCH, JW_EBADF, JW_ENOTSOCK, JW_EINVAL, JW_EMSGSIZE, JW_EBADF for one of fds,
-    /// JW_ENOTCONN, JW_EPIPE, JW_ETOOMANYREFS, JW_ENOBUFS, JW_EAGAIN, JW_ENOMEM.
+    /// JW_ENOTCONN, JW_EPIPE where the peer is gone or the socket's output is closed,
+    /// JW_ETOOMANYREFS, JW_ENOBUFS, JW_EPIPE where the peer's input is closed, JW_EAGAIN,
+    /// JW_ENOMEM.
     pub fn jw_send(
         engine: *mut jw_engine,
         pid: u32,
@@ -312,7 +329,8 @@ unsafe extern "C" {
     /// Receives at most len bytes, 1 or more, and at most nfds descriptors (recvmsg(2) with
     /// SCM_RIGHTS). More room than 65536 bytes is taken for 65536. Writes the bytes and the new
     /// descriptors, and to out how many descriptors there are and what did not fit. Answers how
-    /// many bytes it wrote, or 0 where nothing is left and the peer is gone.
+    /// many bytes it wrote, or 0 where nothing is left, and the peer is gone or the socket's input
+    /// closed.
     ///
     /// A packet's bytes beyond len are dropped; a stream's wait for the next receive. Descriptors
     /// beyond nfds or beyond the free ones are closed. Needs no memory for a packet that brings no
