@@ -1,7 +1,9 @@
 //! An engine, and the calls that change it.
 use crate::handle::Handle;
+use crate::types::code_of_ends;
 use crate::{Errno, Fd, Finished, Pid, Received, SockType};
 use std::fmt;
+use std::net::Shutdown;
 
 /// A world of processes, descriptors, sockets and queues, with a collector.
 ///
@@ -215,6 +217,37 @@ impl Engine {
     pub fn accept(&mut self, by: Pid, on: Fd) -> Result<Fd, Errno> {
         self.handle.accept(by.0, on.0).map(to_fd)
     }
+
+    /// Closes the input of a socket, its output, or both, and with them the output or input of its
+    /// peer (shutdown(2)). What waits can still be received. A closed end is never opened again.
+    ///
+    /// ```
+    /// use jaywardrobe::{Engine, Errno, SockType};
+    /// use std::net::Shutdown;
+    ///
+    /// let mut engine = Engine::new()?;
+    /// let pid = engine.spawn(1000, 16, false)?;
+    /// let (here, there) = engine.pair(pid, SockType::Stream)?;
+    /// engine.send(pid, here, "last", &[])?;
+    /// engine.shutdown(pid, here, Shutdown::Write)?;
+    /// assert_eq!(engine.send(pid, here, "more", &[]), Err(Errno::EPIPE));
+    ///
+    /// let mut bytes = [0; 8];
+    /// let got = engine.recv(pid, there, &mut bytes, &mut [])?;
+    /// assert_eq!(got.map(|got| got.bytes), Some(4));
+    /// assert_eq!(engine.recv(pid, there, &mut bytes, &mut [])?, None);
+    /// // The other direction stays open.
+    /// assert_eq!(engine.send(pid, there, "thanks", &[])?, 6);
+    /// # Ok::<(), Errno>(())
+    /// ```
+    ///
+    /// # Errors
+    ///
+    /// ESRCH, EBADF, ENOTSOCK.
+    pub fn shutdown(&mut self, by: Pid, on: Fd, how: Shutdown) -> Result<(), Errno> {
+        let how = code_of_ends(how);
+        self.handle.shutdown(by.0, on.0, how).map(drop)
+    }
 }
 
 /// Messages.
@@ -225,8 +258,9 @@ impl Engine {
     ///
     /// # Errors
     ///
-    /// ESRCH, EBADF, ENOTSOCK, EINVAL, EMSGSIZE, EBADF for an attached descriptor, ENOTCONN, EPIPE,
-    /// ETOOMANYREFS, ENOBUFS, EAGAIN, ENOMEM.
+    /// ESRCH, EBADF, ENOTSOCK, EINVAL, EMSGSIZE, EBADF for an attached descriptor, ENOTCONN, EPIPE
+    /// where the peer is gone or the output is closed, ETOOMANYREFS, ENOBUFS, EPIPE where the
+    /// peer's input is closed, EAGAIN, ENOMEM.
     pub fn send(
         &mut self,
         by: Pid,
@@ -238,7 +272,7 @@ impl Engine {
     }
 
     /// Receives bytes and descriptors into these slices (recvmsg(2), SCM_RIGHTS). Returns `None`
-    /// once nothing is left and the peer is gone.
+    /// once nothing is left, and the peer is gone or the socket's input closed.
     ///
     /// Bytes of a packet that do not fit are dropped; those of a stream wait for the next receive.
     /// Descriptors that do not fit, or for which the table has no room, are closed.

@@ -68,10 +68,10 @@ errors! {
     ETOOMANYREFS, JW_ETOOMANYREFS, Some(109), "the user has too many descriptors in flight";
     ENOBUFS, JW_ENOBUFS, Some(105), "all users together have too many descriptors in flight";
     ENOTCONN, JW_ENOTCONN, Some(107), "the socket was never connected";
-    EPIPE, JW_EPIPE, Some(32), "the peer is gone";
+    EPIPE, JW_EPIPE, Some(32), "the peer is gone, or an end on the way is closed";
     EISCONN, JW_EISCONN, Some(106), "the socket is connected already";
     EADDRINUSE, JW_EADDRINUSE, Some(98), "a live socket has this name";
-    ECONNREFUSED, JW_ECONNREFUSED, Some(111), "no live socket of this name listens";
+    ECONNREFUSED, JW_ECONNREFUSED, Some(111), "no socket of this name takes connections";
     EPROTOTYPE, JW_EPROTOTYPE, Some(91), "the listener is of the other type";
     ESRCH, JW_ESRCH, Some(3), "there is no such process";
     ENOMEM, JW_ENOMEM, Some(12), "memory ran out";

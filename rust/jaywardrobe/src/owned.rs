@@ -4,6 +4,7 @@ use std::collections::{HashMap, HashSet};
 use std::error::Error;
 use std::fmt;
 use std::io;
+use std::net::Shutdown;
 
 /// An engine, and a value behind each plain file.
 ///
@@ -210,6 +211,11 @@ impl<T> Owned<T> {
     /// Accepts a connection: see [`Engine::accept`].
     pub fn accept(&mut self, by: Pid, on: Fd) -> Result<Fd, Errno> {
         self.engine.accept(by, on)
+    }
+
+    /// Closes ends of a socket, and those of its peer: see [`Engine::shutdown`].
+    pub fn shutdown(&mut self, by: Pid, on: Fd, how: Shutdown) -> Result<(), Errno> {
+        self.engine.shutdown(by, on, how)
     }
 
     /// Sends bytes and files: see [`Engine::send`].

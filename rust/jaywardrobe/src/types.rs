@@ -1,6 +1,7 @@
 //! The inputs and results of the calls.
 use jaywardrobe_sys as sys;
 use std::fmt;
+use std::net::Shutdown;
 
 /// A process of an engine. The first pid is 1, and none is given twice.
 #[derive(Clone, Copy, Debug, PartialEq, Eq, PartialOrd, Ord, Hash)]
@@ -51,6 +52,15 @@ impl SockType {
             SockType::Stream => sys::JW_STREAM,
             SockType::Seqpacket => sys::JW_SEQPACKET,
         }
+    }
+}
+
+/// Returns the number that the library has for the ends of a socket.
+pub(crate) fn code_of_ends(how: Shutdown) -> u32 {
+    match how {
+        Shutdown::Read => sys::JW_SHUT_RD,
+        Shutdown::Write => sys::JW_SHUT_WR,
+        Shutdown::Both => sys::JW_SHUT_RDWR,
     }
 }
 
@@ -148,7 +158,7 @@ pub struct Ready {
     pub readable: bool,
     /// Whether a send of a byte without descriptors has room (POLLOUT).
     pub writable: bool,
-    /// Whether the peer is gone (POLLHUP).
+    /// Whether the peer is gone, or both ends of the socket are closed (POLLHUP).
     pub hung_up: bool,
 }
 

@@ -2,6 +2,7 @@
 use jaywardrobe::{
     Engine, Errno, Fd, File, Ino, MAX_FDS, Pid, Ready, Received, SockType, State, version,
 };
+use std::net::Shutdown;
 
 /// An engine with a process that may have 16 descriptors.
 fn engine_with_process() -> Result<(Engine, Pid), Errno> {
@@ -195,6 +196,59 @@ fn readiness_follows_the_queue_and_the_peer() -> Result<(), Errno> {
     assert_eq!(engine.poll(pid, here)?, ready(false, false, false));
     engine.close(pid, there)?;
     assert!(engine.poll(pid, here)?.hung_up);
+    Ok(())
+}
+
+/// Whether a socket is readable, writable and hung up.
+fn readiness(engine: &Engine, pid: Pid, on: Fd) -> Result<(bool, bool, bool), Errno> {
+    let ready = engine.poll(pid, on)?;
+    Ok((ready.readable, ready.writable, ready.hung_up))
+}
+
+#[test]
+fn a_shutdown_closes_an_end_and_the_peers_other_one() -> Result<(), Errno> {
+    for kind in [SockType::Stream, SockType::Seqpacket] {
+        let (mut engine, pid) = engine_with_process()?;
+        let (here, there) = engine.pair(pid, kind)?;
+        engine.send(pid, there, "left", &[])?;
+        // It is the same as if the peer had closed its output.
+        engine.shutdown(pid, here, Shutdown::Read)?;
+        let refused = engine.send(pid, there, "more", &[]);
+        assert_eq!(refused, Err(Errno::EPIPE), "{kind:?}");
+        let mut bytes = [0; 8];
+        let got = engine.recv(pid, here, &mut bytes, &mut [])?;
+        assert_eq!(got.map(|got| got.bytes), Some(4));
+        assert_eq!(engine.recv(pid, here, &mut bytes, &mut [])?, None);
+        assert_eq!(engine.peek(pid, here, &mut bytes, &mut [])?, None);
+        assert_eq!(readiness(&engine, pid, here)?, (true, true, false));
+        assert_eq!(readiness(&engine, pid, there)?, (false, false, false));
+        engine.shutdown(pid, there, Shutdown::Both)?;
+        assert_eq!(engine.send(pid, here, "x", &[]), Err(Errno::EPIPE));
+        for end in [here, there] {
+            assert_eq!(readiness(&engine, pid, end)?, (true, false, true));
+        }
+    }
+    Ok(())
+}
+
+#[test]
+fn a_listener_that_is_shut_refuses_connections() -> Result<(), Errno> {
+    let (mut engine, pid) = engine_with_process()?;
+    let listener = engine.socket(pid, SockType::Stream)?;
+    engine.bind(pid, listener, "name")?;
+    engine.listen(pid, listener, 4)?;
+    let early = engine.socket(pid, SockType::Stream)?;
+    let late = engine.socket(pid, SockType::Stream)?;
+    engine.shutdown(pid, late, Shutdown::Write)?;
+    engine.shutdown(pid, listener, Shutdown::Write)?;
+    engine.connect(pid, early, "name")?;
+    engine.shutdown(pid, listener, Shutdown::Read)?;
+    let refused = engine.connect(pid, late, "name");
+    assert_eq!(refused, Err(Errno::ECONNREFUSED));
+    let server = engine.accept(pid, listener)?;
+    assert_eq!(engine.accept(pid, listener), Err(Errno::EAGAIN));
+    assert_eq!(engine.send(pid, early, "x", &[])?, 1);
+    assert!(engine.poll(pid, server)?.readable);
     Ok(())
 }
 

@@ -3,6 +3,7 @@ use jaywardrobe::{Engine, Errno, Fd, MAX_BYTES, MAX_FDS, MAX_FILES, MAX_INFLIGHT
 use jaywardrobe::{MAX_NOFILE, MAX_PROCESSES, Pid, SockType};
 use std::error::Error;
 use std::io::{self, ErrorKind};
+use std::net::Shutdown;
 
 /// An engine with a process that may have as many descriptors as any.
 fn engine_with_process() -> Result<(Engine, Pid), Errno> {
@@ -20,6 +21,10 @@ fn processes_and_descriptors_are_looked_up() -> Result<(), Errno> {
     assert_eq!(engine.dup2(pid, file, Fd(MAX_NOFILE)), Err(Errno::EBADF));
     assert_eq!(engine.send(pid, file, "x", &[]), Err(Errno::ENOTSOCK));
     assert_eq!(engine.poll(pid, Fd(5)), Err(Errno::EBADF));
+    let both = Shutdown::Both;
+    assert_eq!(engine.shutdown(Pid(7), file, both), Err(Errno::ESRCH));
+    assert_eq!(engine.shutdown(pid, Fd(5), both), Err(Errno::EBADF));
+    assert_eq!(engine.shutdown(pid, file, both), Err(Errno::ENOTSOCK));
     assert_eq!(engine.limit(pid, MAX_NOFILE + 1), Err(Errno::ERANGE));
     Ok(())
 }

@@ -2,6 +2,7 @@
 use jaywardrobe::{Errno, Fd, Owned, Pid, SockType};
 use std::error::Error;
 use std::io;
+use std::net::Shutdown;
 use std::rc::Rc;
 
 /// An engine with a process that has this limit on descriptors.
@@ -68,6 +69,23 @@ fn a_value_stays_while_its_file_is_in_flight() -> Result<(), Errno> {
     owned.recv(pid, there, &mut [0], &mut fds[..0])?;
     assert_eq!(freed(&mut owned), ["sent".into()]);
     assert!(freed(&mut owned).is_empty());
+    Ok(())
+}
+
+#[test]
+fn a_value_stays_in_the_queue_of_a_socket_that_is_shut() -> Result<(), Errno> {
+    let (mut owned, pid) = engine_with(8)?;
+    let (here, there) = owned.pair(pid, SockType::Stream)?;
+    let file = opened(&mut owned, pid, "sent")?;
+    owned.send(pid, here, b"x", &[file])?;
+    owned.close(pid, file)?;
+    owned.shutdown(pid, there, Shutdown::Both)?;
+    assert!(freed(&mut owned).is_empty());
+    let mut fds = [Fd(0)];
+    owned.recv(pid, there, &mut [0], &mut fds)?;
+    assert_eq!(owned.get(pid, fds[0]).map(|text| &**text), Some("sent"));
+    owned.close(pid, fds[0])?;
+    assert_eq!(freed(&mut owned), ["sent".into()]);
     Ok(())
 }
 

@@ -2,6 +2,7 @@
 //! back once.
 use jaywardrobe::{Engine, Errno, Fd, File, Ino, Owned, Pid, SockType, State};
 use std::collections::{HashMap, HashSet};
+use std::net::Shutdown;
 
 /// splitmix64, which gives each seed another walk.
 struct Random(u64);
@@ -91,7 +92,8 @@ impl Walk {
             23 => self.duplicate(by),
             24..31 => self.close(by),
             31 => self.fork_or_exit(by),
-            32..37 => self.meet(by),
+            32..36 => self.meet(by),
+            36 => self.shutdown(by),
             37 => self.engine.begin().map(drop),
             _ => self.engine.slice(3).map(drop),
         }
@@ -180,6 +182,18 @@ impl Walk {
             self.engine.close(by, on)?;
         }
         met
+    }
+
+    fn shutdown(&mut self, by: Pid) -> Result<(), Errno> {
+        let on = self.socket(by);
+        let ends = [Shutdown::Read, Shutdown::Write, Shutdown::Both];
+        let how = ends[self.random.below(ends.len())];
+        self.engine.shutdown(by, on, how)?;
+        // It is shut already, and stays so.
+        let ready = self.engine.engine().poll(by, on);
+        self.engine.shutdown(by, on, how)?;
+        assert_eq!(self.engine.engine().poll(by, on), ready);
+        Ok(())
     }
 
     /// Takes the values of freed files. Each was given, and none came before.
