@@ -113,6 +113,8 @@ static void by_strangers(uint32_t pid) {
     REFUSED(jw_listen(&engine, pid, 0, 1), JW_ESRCH);
     REFUSED(jw_connect(&engine, pid, 0, "name", 4), JW_ESRCH);
     REFUSED(jw_accept(&engine, pid, 0), JW_ESRCH);
+    REFUSED(jw_shutdown(&engine, pid, 0, JW_SHUT_RDWR), JW_ESRCH);
+    REFUSED(jw_shutdown(&engine, pid, LAST, JW_SHUT_RD), JW_ESRCH);
     REFUSED(send(pid, 0, 1, many, 0), JW_ESRCH);
     REFUSED(send(pid, 0, 0, many, JW_MAX_FD + 1), JW_ESRCH);
     REFUSED(receive(pid, 0, 8), JW_ESRCH);
@@ -129,6 +131,7 @@ static void at_closed(uint32_t fd) {
     REFUSED(jw_listen(&engine, 1, fd, 1), JW_EBADF);
     REFUSED(jw_connect(&engine, 1, fd, "name", 4), JW_EBADF);
     REFUSED(jw_accept(&engine, 1, fd), JW_EBADF);
+    REFUSED(jw_shutdown(&engine, 1, fd, JW_SHUT_WR), JW_EBADF);
     REFUSED(send(1, fd, 1, many, 0), JW_EBADF);
     REFUSED(send(1, fd, 0, many, JW_MAX_FD + 1), JW_EBADF);
     REFUSED(send(1, 0, 1, &fd, 1), JW_EBADF);
@@ -173,6 +176,9 @@ static void out_of_range(void) {
     REFUSED(jw_pair(&engine, STRANGER, LAST, &places.pair), JW_EINVAL);
     REFUSED(jw_socket(&engine, 1, 3), JW_EINVAL);
     REFUSED(jw_socket(&engine, 1, LAST), JW_EINVAL);
+    REFUSED(jw_shutdown(&engine, 1, 2, JW_SHUT_RD), JW_ENOTSOCK);
+    REFUSED(jw_shutdown(&engine, 1, 0, JW_SHUT_RDWR + 1), JW_EINVAL);
+    REFUSED(jw_shutdown(&engine, STRANGER, LAST, LAST), JW_EINVAL);
 }
 
 /* The collector's calls, where they do not fit. */
@@ -207,6 +213,8 @@ static void events_without_an_engine(void) {
     REFUSED(jw_listen(&engine, 1, 0, 1), JW_ENOENGINE);
     REFUSED(jw_connect(&engine, 1, 0, "name", 4), JW_ENOENGINE);
     REFUSED(jw_accept(&engine, 1, 0), JW_ENOENGINE);
+    REFUSED(jw_shutdown(&engine, 1, 0, JW_SHUT_RDWR), JW_ENOENGINE);
+    REFUSED(jw_shutdown(&engine, 1, 0, JW_SHUT_RDWR + 1), JW_EINVAL);
     REFUSED(send(1, 0, 1, many, 0), JW_ENOENGINE);
     REFUSED(receive(1, 0, 8), JW_ENOENGINE);
     REFUSED(peek(1, 0, 8), JW_ENOENGINE);
@@ -317,6 +325,55 @@ static int polled(void) {
     MUST(jw_poll(&engine, 1, (uint32_t)client, &ready) == 0 && !ready.readable && ready.writable);
     MUST(jw_accept(&engine, 1, (uint32_t)listener) >= 0);
     MUST(jw_poll(&engine, 1, (uint32_t)listener, &ready) == 0 && !ready.readable);
+    return 0;
+}
+
+/* Returns whether a descriptor of process 1 is ready for just these. */
+static bool is_ready(uint32_t fd, bool readable, bool writable, bool hung_up) {
+    struct jw_ready ready;
+    return jw_poll(&engine, 1, fd, &ready) == 0 && ready.readable == readable &&
+           ready.writable == writable && ready.hung_up == hung_up;
+}
+
+/* Each end of a pair is closed: what waits comes first, then the end. A send is refused, with a
+ * descriptor too. */
+static int shut_pair(void) {
+    struct jw_pair pair;
+    struct jw_received got;
+    MUST(jw_engine_new(&engine) == 0 && jw_spawn(&engine, 7, 16, false) == 1);
+    MUST(jw_pair(&engine, 1, JW_STREAM, &pair) == 0);
+    MUST(jw_send(&engine, 1, pair.first, "a", 1, many, 0) == 1);
+    MUST(jw_shutdown(&engine, 1, pair.first, JW_SHUT_WR) == 0);
+    MUST(is_ready(pair.first, false, false, false) && is_ready(pair.second, true, true, false));
+    REFUSED(send(1, pair.first, 1, &pair.first, 1), JW_EPIPE);
+    MUST(jw_recv(&engine, 1, pair.second, big, 8, NULL, 0, &got) == 1);
+    MUST(jw_recv(&engine, 1, pair.second, big, 8, NULL, 0, &got) == 0);
+    MUST(jw_shutdown(&engine, 1, pair.first, JW_SHUT_RD) == 0);
+    MUST(jw_shutdown(&engine, 1, pair.first, JW_SHUT_RD) == 0);
+    MUST(is_ready(pair.first, true, false, true) && is_ready(pair.second, true, false, true));
+    REFUSED(send(1, pair.second, 1, many, 0), JW_EPIPE);
+    return 0;
+}
+
+/* A socket that was shut before stays so when it is connected, and its embryo's ends are open. A
+ * shut listener refuses connections, but gives those that wait. */
+static int shut_before(void) {
+    enum { LISTENER = 0, CLIENT = 1, LATE = 2 };
+    MUST(jw_engine_new(&engine) == 0 && jw_spawn(&engine, 7, 16, false) == 1);
+    for (int fd = 0; fd <= LATE; fd++)
+        MUST(jw_socket(&engine, 1, JW_STREAM) == fd);
+    MUST(jw_bind(&engine, 1, LISTENER, "here", 4) == 0 && jw_listen(&engine, 1, LISTENER, 1) == 0);
+    MUST(jw_shutdown(&engine, 1, CLIENT, JW_SHUT_RD) == 0);
+    MUST(jw_connect(&engine, 1, CLIENT, "here", 4) == 0);
+    MUST(jw_shutdown(&engine, 1, LISTENER, JW_SHUT_RDWR) == 0);
+    MUST(is_ready(LISTENER, true, false, true));
+    uint32_t server = (uint32_t)jw_accept(&engine, 1, LISTENER);
+    REFUSED(jw_connect(&engine, 1, LATE, "here", 4), JW_ECONNREFUSED);
+    REFUSED(jw_accept(&engine, 1, LISTENER), JW_EAGAIN);
+    REFUSED(send(1, server, 1, many, 0), JW_EPIPE);
+    MUST(is_ready(CLIENT, true, true, false) && is_ready(server, false, false, false));
+    MUST(jw_send(&engine, 1, CLIENT, "a", 1, many, 0) == 1);
+    MUST(is_ready(server, true, false, false));
     return 0;
 }
 
@@ -533,7 +590,7 @@ int main(void) {
     MUST(jw_engine_new(&engine) == 0);
     MUST(jw_engine_new(&engine) == 0);
     MUST(jw_next_pid(&engine) == 1);
-    if (polled() != 0 || told() != 0 || emptied() != 0)
+    if (polled() != 0 || shut_pair() != 0 || shut_before() != 0 || told() != 0 || emptied() != 0)
         return 1;
     jw_engine_free(&engine);
     return failures == 0 ? 0 : 1;

@@ -118,7 +118,7 @@ static void message(void) {
     FREE(jw_limit(&engine, 1, 128), 0);
 }
 
-/* A child, and a listener with a connection, whose client is sent through it. */
+/* A child, and a listener with a connection, whose client is sent through it and then shut out. */
 static void listener(void) {
     const uint32_t client = 7;
 
@@ -133,6 +133,10 @@ static void listener(void) {
     DONE(jw_connect(&engine, 1, 7, "name", 4), 0);
     DONE(jw_accept(&engine, 1, 6), 8);
     DONE(jw_send(&engine, 1, client, "me", 2, &client, 1), 2);
+    FREE(jw_shutdown(&engine, 1, 8, JW_SHUT_RD), 0);
+    FREE(jw_send(&engine, 1, client, "me", 2, &client, 1), -JW_EPIPE);
+    FREE(jw_shutdown(&engine, 1, 6, JW_SHUT_RDWR), 0);
+    FREE(jw_shutdown(&engine, 1, 2, JW_SHUT_WR), -JW_ENOTSOCK);
 }
 
 /* Views and reports. */

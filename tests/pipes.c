@@ -11,7 +11,9 @@
  *   named are as many as the live ones, so each freed file is named. The reading ends of the pipes
  *   that the event opens or closes are asked.
  * - Every STRIDE events, and at the end, all reading ends are compared with a recount: the arrows
- *   of the picture that jw_graph draws. jw_check recounts too.
+ *   of the picture that jw_graph draws. jw_check recounts too. What each descriptor is ready for is
+ *   compared with its file's state, and with the ends that the program has shut. After each send
+ *   and receive, its answer is compared with these ends.
  * - At the end all processes exit, and passes free the rest. All writing ends are closed then.
  *
  * The status is 0 if all of that holds. */
@@ -29,6 +31,7 @@ enum { PIPES = 1000, EVENTS = 100000, STRIDE = 250, PROCESSES = 8, NOFILE = 96, 
 enum { NAMES = 6, MOST_BYTES = 48, MOST_FDS = 5, MOST_BUDGET = 40, DRAWS = 8, LAST_PASSES = 3 };
 /* An event makes at most two files, so inode numbers are smaller than that. */
 enum { INOS = 2 * EVENTS + 1, TEXT = 1 << 20 };
+enum { INPUT = 1, OUTPUT = 2 }; /* Ends of a socket. */
 
 /* A pipe, and the file that its writing end stood behind last. */
 struct conduit {
@@ -50,6 +53,7 @@ static jw_engine engine = JW_ENGINE_INIT;
 static struct conduit pipes[PIPES];
 static struct conduit *owner[INOS]; /* The pipe of a plain file, also of one that was freed. */
 static bool was_named[INOS];        /* Whether jw_released named the file. */
+static int shut[INOS];              /* Which ends of a socket are shut. */
 static uint32_t next_pipe;          /* Where the search for an unowned pipe begins. */
 static uint32_t pids[PROCESSES], running;
 static uint64_t made, named, opened, closed, places[INOS], released[INOS];
@@ -165,7 +169,7 @@ static void recount(void) {
 
 /* Checks that a reading end is hung up exactly if its file was freed, by the recount. Returns how
  * many are hung up. */
-static uint64_t compare_ends(void) {
+static uint64_t compare_pipes(void) {
     static struct pollfd asks[PIPES];
     struct jw_checked checked;
     uint64_t hung_up = 0;
@@ -182,6 +186,68 @@ static uint64_t compare_ends(void) {
         MUST(owner[ino] == NULL || places[ino] == refs(ino));
     MUST(jw_check(&engine, &checked) == 0);
     return hung_up;
+}
+
+/* ---- Ends of sockets ---- */
+
+/* A file as the engine shows it, and which ends of it and of its peer are shut. */
+struct seen {
+    uint64_t ino;
+    struct jw_file file, peer;
+    int shut, peer_shut;
+};
+
+static struct seen see(uint32_t pid, uint32_t fd) {
+    struct seen it;
+    MUST(jw_ino(&engine, pid, fd, &it.ino) == 0 && jw_file(&engine, it.ino, &it.file) == 0);
+    MUST(jw_file(&engine, it.file.peer, &it.peer) == 0);
+    it.shut = shut[it.ino];
+    it.peer_shut = shut[it.file.peer];
+    return it;
+}
+
+static bool is_socket(const struct seen *it) {
+    return it->file.kind == JW_STREAM || it->file.kind == JW_SEQPACKET;
+}
+
+/* Checks what a descriptor is ready for. */
+static void compare_readiness(uint32_t pid, uint32_t fd) {
+    struct seen it = see(pid, fd);
+    struct jw_ready ready;
+    bool is_connected = it.file.state == JW_CONNECTED, is_hung_up = it.file.state == JW_HUNG_UP;
+    bool has_end = is_hung_up || (is_connected && (it.shut & INPUT));
+    bool is_open = is_connected && !(it.shut & OUTPUT) && !(it.peer_shut & INPUT);
+    MUST(jw_poll(&engine, pid, fd, &ready) == 0);
+    if (!is_socket(&it))
+        return;
+    MUST(ready.readable == (it.file.messages + it.file.embryos > 0 || has_end));
+    MUST(ready.writable == (is_open && it.peer.messages < JW_MAX_MESSAGES));
+    MUST(ready.hung_up == (is_hung_up || it.shut == (INPUT | OUTPUT)));
+}
+
+static void compare_all(void) {
+    uint64_t ino;
+    compare_pipes();
+    for (uint32_t i = 0; i < running; i++)
+        for (int64_t fd = 0; (fd = jw_next_fd(&engine, pids[i], (uint32_t)fd, &ino)) >= 0; fd++)
+            compare_readiness(pids[i], (uint32_t)fd);
+}
+
+/* Checks what a send has answered: EPIPE where an end is shut, but for errors that come first. */
+static int64_t sent(const struct seen *it, int64_t answer) {
+    bool is_closed = (it->shut & OUTPUT) || (it->peer_shut & INPUT);
+    bool is_late = !(it->shut & OUTPUT) && (answer == -JW_ETOOMANYREFS || answer == -JW_ENOBUFS);
+    if (it->file.state != JW_CONNECTED || answer == -JW_EBADF || is_late)
+        return answer;
+    MUST((answer == -JW_EPIPE) == is_closed);
+    return answer;
+}
+
+/* Checks what a receive has answered: the end where nothing is left and the input is shut. */
+static int64_t received(const struct seen *it, int64_t answer) {
+    if (it->file.state == JW_CONNECTED && it->file.messages == 0)
+        MUST(answer == (it->shut & INPUT ? 0 : -JW_EAGAIN));
+    return answer;
 }
 
 /* ---- Events ---- */
@@ -320,7 +386,8 @@ static int64_t play_send(uint32_t pid) {
     uint32_t fds[MOST_FDS], on = any_socket(pid, JW_CONNECTED), count = below(MOST_FDS + 1);
     for (uint32_t i = 0; i < count; i++)
         fds[i] = below(3) > 0 ? any_fd(pid) : any_socket(pid, JW_CONNECTED);
-    return jw_send(&engine, pid, on, bytes, 1 + below(MOST_BYTES), fds, count);
+    struct seen it = see(pid, on);
+    return sent(&it, jw_send(&engine, pid, on, bytes, 1 + below(MOST_BYTES), fds, count));
 }
 
 /* Receives, often with too little room. */
@@ -328,14 +395,32 @@ static int64_t play_recv(uint32_t pid) {
     uint8_t bytes[MOST_BYTES];
     uint32_t fds[MOST_FDS], on = any_socket(pid, JW_CONNECTED);
     struct jw_received out;
-    return jw_recv(&engine, pid, on, bytes, 1 + below(MOST_BYTES), fds, below(MOST_FDS), &out);
+    struct seen it = see(pid, on);
+    size_t length = 1 + below(MOST_BYTES), room = below(MOST_FDS);
+    return received(&it, jw_recv(&engine, pid, on, bytes, length, fds, room, &out));
 }
 
 static int64_t play_peek(uint32_t pid) {
     uint8_t bytes[MOST_BYTES];
     uint32_t fds[MOST_FDS], on = any_socket(pid, JW_CONNECTED);
     struct jw_received out;
-    return jw_peek(&engine, pid, on, bytes, 1 + below(MOST_BYTES), fds, below(MOST_FDS), &out);
+    struct seen it = see(pid, on);
+    size_t length = 1 + below(MOST_BYTES), room = below(MOST_FDS);
+    return received(&it, jw_peek(&engine, pid, on, bytes, length, fds, room, &out));
+}
+
+static int64_t play_shutdown(uint32_t pid) {
+    uint32_t fd = any_socket(pid, below(3) == 0 ? JW_IDLE : JW_CONNECTED), how = below(3);
+    struct seen it = see(pid, fd);
+    int64_t answer = jw_shutdown(&engine, pid, fd, how);
+    if (answer < 0)
+        return answer;
+    int own = how == JW_SHUT_RD ? INPUT : how == JW_SHUT_WR ? OUTPUT : INPUT | OUTPUT;
+    shut[it.ino] |= own;
+    if (it.file.peer != 0)
+        shut[it.file.peer] |= (own & INPUT ? OUTPUT : 0) | (own & OUTPUT ? INPUT : 0);
+    compare_readiness(pid, fd);
+    return answer;
 }
 
 static int64_t play_begin(uint32_t pid) {
@@ -374,6 +459,7 @@ static struct event events[] = {
     {"send", 160, play_send, false, 0, 0},
     {"recv", 80, play_recv, true, 0, 0},
     {"peek", 10, play_peek, false, 0, 0},
+    {"shutdown", 12, play_shutdown, false, 0, 0},
     {"begin", 10, play_begin, false, 0, 0},
     {"slice", 40, play_slice, true, 0, 0},
     {"pass", 4, play_pass, true, 0, 0},
@@ -433,7 +519,7 @@ int main(void) {
         else
             play(any_event(), pids[below(running)]);
         if (number % STRIDE == 0)
-            compare_ends();
+            compare_all();
     }
 
     while (running > 0)
@@ -444,7 +530,7 @@ int main(void) {
         play(event_of("slice"), 0); /* A pass that runs is finished first. */
         play(event_of("pass"), 0);
     }
-    MUST(compare_ends() == PIPES && closed == opened);
+    MUST(compare_pipes() == PIPES && closed == opened);
     jw_engine_free(&engine);
 
     printf("pipes: %d events, %" PRIu64 " files opened and freed\n", EVENTS, opened);
