@@ -95,8 +95,7 @@ static long splice_in(struct call *call, int pipe, size_t length, int flags) {
     const struct file *peer = peer_of(call->file);
     start_message(call, length, flags);
     long result = refusal_of_send(call, peer);
-    if (result == 0 && peer == NULL)
-        result = state_of(call->file->ino).state == JW_HUNG_UP ? -EPIPE : -ENOTCONN;
+    if (result == 0) result = refusal_of_any_send(call);
     if (result < 0) return result;
     if (!has_room(peer, call->file)) return wait_for(call, flags, call->file->ino);
     ssize_t moved = splice(pipe, NULL, way[1], NULL, message.length, SPLICE_F_NONBLOCK);

@@ -50,7 +50,7 @@ int main(int argc, char **argv) {
     start_programs(argv + read_options(argc, argv));
     prepare();
     take_signals(&signals);
-    if (options.script != NULL) fputs("version 2\n", options.script);
+    if (options.script != NULL) fputs("version 3\n", options.script);
     long pid = record(0, jw_spawn(&engine, geteuid(), JW_MAX_NOFILE, is_root),
                       is_root ? "spawn %u %u priv" : "spawn %u %u", geteuid(), JW_MAX_NOFILE);
     const struct namespaces unknown = {.is_stale = true};

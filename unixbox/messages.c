@@ -153,9 +153,8 @@ static long copy_files(struct process *process) {
 /* Sends a part, or holds it back where the layer's queue is full. Descriptors are never held back:
  * the layer has to count them. */
 static long send_part(struct call *call, struct file *peer) {
-    if (peer != NULL) push_held(call, peer);
-    long result = -EAGAIN;
-    if (peer == NULL || peer->held == NULL) {
+    long result = peer != NULL ? push_held(call, peer) : 0;
+    if (result == 0) {
         int64_t answer = jw_send(&engine, call->pid, call->fd, message.bytes, message.length,
                                  message.fds, message.fd_count);
         result = record(call->pid, answer, "send %u *%zu%s", call->fd, message.length,
@@ -170,21 +169,36 @@ static long send_part(struct call *call, struct file *peer) {
 /* Returns what refuses a send before the layer is asked, or 0. */
 long refusal_of_send(struct call *call, const struct file *peer) {
     bool is_stream = call->file->kind == JW_STREAM;
-    bool is_shut = (call->file->shut & 2) || (peer != NULL && (peer->shut & 1));
     if ((message.flags & MSG_OOB) && !(options.oob && is_stream)) return -EOPNOTSUPP;
     if (message.header.msg_namelen > 0 && is_stream) return peer != NULL ? -EISCONN : -EOPNOTSUPP;
     if (message.total > JW_MAX_BYTES && !is_stream) return -EMSGSIZE;
     if (!is_stream && take_reset(call->file)) return -ECONNRESET;
     call->raises_sigpipe = is_stream && !(message.flags & MSG_NOSIGNAL);
-    uint32_t state = is_shut ? state_of(call->file->ino).state : JW_IDLE;
-    return state == JW_CONNECTED || state == JW_HUNG_UP ? -EPIPE : 0;
+    return 0;
+}
+
+/* Returns what refuses each send from a socket, or 0. The layer is asked by a send where the socket
+ * is not writable, so nothing is sent. */
+long refusal_of_any_send(const struct call *call) {
+    struct jw_ready ready = {false, false, false};
+    if (jw_poll(&engine, call->pid, call->fd, &ready) == 0 && ready.writable) return 0;
+    int64_t answer = jw_send(&engine, call->pid, call->fd, "", 1, NULL, 0);
+    return answer == -JW_EAGAIN ? 0 : -jw_errno(answer);
+}
+
+/* Answers a send without bytes and descriptors, which the layer does not have. On a stream, nothing
+ * is sent, so its placeholder answers. */
+static long send_nothing(const struct call *call) {
+    if (call->file->kind == JW_STREAM)
+        return send(call->file->host, "", 0, MSG_NOSIGNAL) < 0 ? -errno : 0;
+    long result = refusal_of_any_send(call);
+    return result < 0 ? result : -EINVAL;
 }
 
 /* Sends what was read of a message, or a part of it. */
 long send_bytes(struct call *call) {
     struct file *peer = peer_of(call->file);
-    if (message.fd_count + message.total == 0 && call->file->kind == JW_STREAM)
-        return peer != NULL ? 0 : -ENOTCONN; /* The layer has no such message. */
+    if (message.fd_count + message.total == 0) return send_nothing(call);
     long result = send_part(call, peer);
     if (result == -EAGAIN) return wait_for(call, message.flags, call->file->ino);
     if (result < 0) return result;
@@ -212,7 +226,10 @@ long serve_send(struct call *call) {
     if (result == 0) result = refusal_of_send(call, peer);
     if (result == 0) result = copy_files(call->process);
     if (result < 0) return result;
-    if (!read_bytes(call)) return -EFAULT;
+    if (!read_bytes(call)) {
+        result = refusal_of_any_send(call);
+        return result < 0 ? result : -EFAULT;
+    }
     result = send_bytes(call);
     bool is_part = result >= 0 && (size_t)result < message.total;
     return is_part ? serve_send(call) : result;

@@ -57,16 +57,18 @@ void hold_message(struct file *file, const struct ucred *sender, const void *fro
 }
 
 /* Pushes what is held back for a socket into the layer's queue, as far as there is room. The caller
- * has the other end open. */
-void push_held(const struct call *call, struct file *file) {
-    while (file->held != NULL && state_of(file->ino).messages < JW_MAX_MESSAGES) {
+ * has the other end open. Returns 0 once none is left, or why the layer refuses the next one. */
+long push_held(const struct call *call, struct file *file) {
+    while (file->held != NULL) {
         struct parcel *it = file->held;
         int64_t answer = jw_send(&engine, call->pid, call->fd, it->bytes, it->length, NULL, 0);
-        if (record(call->pid, answer, "send %u *%zu", call->fd, it->length) < 0) return;
+        long result = record(call->pid, answer, "send %u *%zu", call->fd, it->length);
+        if (result < 0) return result;
         free(it->bytes);
         it->bytes = NULL;
         file->held = TAILQ_NEXT(it, entries);
     }
+    return 0;
 }
 
 /* Copies held bytes: of one message, or of as many as there is room for on a stream. */

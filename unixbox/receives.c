@@ -60,9 +60,8 @@ static size_t wanted(const struct call *call, bool has_user) {
 
 /* Answers where there is nothing to receive: by 0 at the end, by an errno, or later. */
 long receive_nothing(struct call *call, long result) {
-    const struct file *file = call->file, *peer = peer_of(file);
-    bool is_shut = (file->shut & 1) || (peer != NULL && (peer->shut & 2));
-    message.is_end = result == 0 || (result == -EAGAIN && is_shut);
+    const struct file *file = call->file;
+    message.is_end = result == 0;
     if (message.is_end) return take_reset(file) ? -ECONNRESET : 0;
     if (result == -EAGAIN) return wait_for(call, message.flags, file->ino);
     return file->kind == JW_STREAM && result == -ENOTCONN ? -EINVAL : result;

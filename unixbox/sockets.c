@@ -4,7 +4,6 @@
 enum { TOKEN = 768 }; /* What a byte takes of a buffer (SIOCOUTQ). */
 enum { KEY_ROOM = JW_MAX_NAME + 1, PATH_START = offsetof(struct sockaddr_un, sun_path) };
 
-static bool has_shut_listeners; /* One was shut down at some time. */
 static const struct address unnamed = {{.sun_family = AF_UNIX}, PATH_START};
 
 /* A socket is writable while at most a quarter of twice this number is taken. */
@@ -182,21 +181,6 @@ long serve_listen(struct call *call) {
     return 0;
 }
 
-/* Whether a listener of this name has shut its receives down: then it takes no connections. The
- * layer does not know it. */
-static bool is_shut(const struct name *name) {
-    const struct file *it;
-    struct name other;
-    for (int i = 0; has_shut_listeners && i < FILE_SLOTS; i++)
-        LIST_FOREACH(it, &files[i], entries) {
-            if (!it->listens || !(it->shut & 1)) continue;
-            other.address = it->own;
-            find_key(&other, it, it->path);
-            if (strcmp(other.key, name->key) == 0) return true;
-        }
-    return false;
-}
-
 long serve_connect(struct call *call) {
     struct name name;
     struct file *client = call->file, *listener = client;
@@ -210,7 +194,6 @@ long serve_connect(struct call *call) {
     if (name.path[0] != '\0' && file < 0) return file;
     result = find_key(&name, client, file);
     if (file >= 0) close(file);
-    if (result == 0 && is_shut(&name)) result = -ECONNREFUSED;
     if (result < 0) return result;
     int64_t answer = jw_connect(&engine, call->pid, call->fd, name.key, strlen(name.key));
     result = record(call->pid, answer, "connect %u %s", call->fd, name.key);
@@ -233,18 +216,19 @@ long serve_connect(struct call *call) {
 
 long serve_accept(struct call *call) {
     int flags = call->number == SYS_accept4 ? (int)call->args[3] : 0;
-    struct pollfd ask = {call->file->host, POLLIN, 0};
+    struct pollfd ask = {call->file->host, POLLIN | POLLRDHUP, 0};
     if (flags & ~(SOCK_CLOEXEC | SOCK_NONBLOCK)) return -EINVAL;
     sync_table(call->process);
     long result = record(call->pid, jw_accept(&engine, call->pid, call->fd), "accept %u", call->fd);
-    if (result == -EAGAIN && (call->file->shut & 1)) return -EINVAL; /* None is to come. */
+    poll(&ask, 1, 0);
+    if (result == -EAGAIN && (ask.revents & POLLRDHUP)) return -EINVAL; /* None is to come. */
     if (result < 0) return result == -EAGAIN ? wait_for(call, 0, call->file->ino) : result;
     uint32_t fd = (uint32_t)result;
     call->process->fd_count++;
     struct file *file = file_of(call->process, fd);
     file->is_embryo = false;
     int host = -1;
-    if (poll(&ask, 1, 0) == 1) /* Connections wait in the order of the layer. */
+    if (ask.revents & POLLIN) /* Connections wait in the order of the layer. */
         host = accept4(ask.fd, NULL, NULL, flags | SOCK_CLOEXEC);
     file->host = keep_back(host, KEPT_FOR_PROCESSES);
     if (file->host >= 0) size_buffer(file->host);
@@ -256,11 +240,13 @@ long serve_accept(struct call *call) {
     return fd;
 }
 
-/* The layer has no shutdown(2): sends and receives look at what is kept here. */
+/* The placeholder is shut, too: poll(2) tells more of an end than the layer. */
 long serve_shutdown(struct call *call) {
-    if (shutdown(call->file->host, (int)call->args[1]) < 0) return -errno;
-    call->file->shut |= (int)call->args[1] + 1;
-    has_shut_listeners = has_shut_listeners || (call->file->listens && (call->file->shut & 1));
-    wake_ends(call->file);
-    return 0;
+    static const char *const ends[] = {"read", "write", "both"};
+    uint32_t how = (uint32_t)call->args[1];
+    if (how > JW_SHUT_RDWR) return -EINVAL;
+    long result = record(call->pid, jw_shutdown(&engine, call->pid, call->fd, how),
+                         "shutdown %u %s", call->fd, ends[how]);
+    if (result == 0) shutdown(call->file->host, (int)how);
+    return result;
 }

@@ -99,7 +99,6 @@ struct file {
     bool is_embryo, listens;
     int host;             /* The placeholder, or a copy of a plain file that was sent, or -1. */
     int path;             /* Keeps the inode of a pathname from being used again, or -1. */
-    int shut;             /* What shutdown(2) ended: 1 for receives, 2 for sends. */
     uint64_t messages;    /* How many messages its placeholder was refreshed for last. */
     uint64_t tokens;      /* Bytes in the placeholder. */
     bool is_stale;        /* Its placeholder is to be refreshed. */
@@ -165,6 +164,7 @@ extern struct message {
 } message;
 long read_message(struct call *call);
 long refusal_of_send(struct call *call, const struct file *peer);
+long refusal_of_any_send(const struct call *call);
 long send_bytes(struct call *call);
 long look(const struct call *call, size_t length, size_t *queued);
 long take(const struct call *call, size_t length, size_t queued, size_t room);
@@ -279,7 +279,7 @@ void note_message(struct file *file, const struct ucred *sender, size_t length);
 bool has_room(const struct file *file, struct file *sender);
 void hold_message(struct file *file, const struct ucred *sender, const void *from, size_t length);
 size_t bytes_waiting(const struct file *file);
-void push_held(const struct call *call, struct file *file);
+long push_held(const struct call *call, struct file *file);
 size_t copy_held(const struct file *file, uint8_t *to, size_t room);
 void drop_received(struct file *file, size_t length);
 void drop_queue(struct file *file);

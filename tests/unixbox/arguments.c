@@ -62,23 +62,6 @@ static const char *check_types(void) {
     return "each wrong type or protocol has its error";
 }
 
-/* A listener that has shut down its receives takes no connection but those that wait. */
-static const char *check_shutdown(void) {
-    const struct sockaddr_un name = {.sun_family = AF_UNIX, .sun_path = "\0shutdown"};
-    const struct sockaddr *place = (const struct sockaddr *)&name;
-    int listener = socket(AF_UNIX, SOCK_STREAM, 0), client = socket(AF_UNIX, SOCK_STREAM, 0);
-    MUST(bind(listener, place, sizeof name) == 0 && listen(listener, 2) == 0);
-    MUST(shutdown(listener, SHUT_WR) == 0 && connect(client, place, sizeof name) == 0);
-    int late = socket(AF_UNIX, SOCK_STREAM, 0), packet = socket(AF_UNIX, SOCK_SEQPACKET, 0);
-    MUST(shutdown(listener, SHUT_RD) == 0 && connect(late, place, sizeof name) < 0);
-    MUST(errno == ECONNREFUSED && connect(packet, place, sizeof name) < 0);
-    MUST(errno == ECONNREFUSED && close(late) == 0 && (late = accept(listener, NULL, NULL)) >= 0);
-    MUST(accept(listener, NULL, NULL) < 0 && errno == EINVAL);
-    close_both((int[]){late, packet});
-    close_both((int[]){listener, client});
-    return "a listener that is shut down takes no connection";
-}
-
 /* More room than any message needs is room enough; a negative length is refused. */
 static const char *check_lengths(void) {
     const size_t most = (size_t)INT_MAX + 1, negative = (size_t)SSIZE_MAX + 1;
@@ -214,7 +197,6 @@ int main(void) {
     setvbuf(stdout, NULL, _IOLBF, 0); /* No child inherits a line. */
     printf("flags: %s\n", check_flags());
     printf("types: %s\n", check_types());
-    printf("shutdown: %s\n", check_shutdown());
     printf("lengths: %s\n", check_lengths());
     printf("limit: %s\n", check_limit());
     printf("files: %s\n", check_files());

@@ -81,20 +81,11 @@ static void check_reset(int type) {
     MUST(send(pair[0], "x", 1, MSG_NOSIGNAL) < 0 && errno == EPIPE && close(pair[0]) == 0);
 }
 
-/* What was never connected is not connected, also after a shutdown(2). */
-static const char *check_shutdown(void) {
-    int alone = socket(AF_UNIX, SOCK_STREAM, 0);
-    MUST(shutdown(alone, SHUT_RDWR) == 0 || errno == ENOTCONN);
-    MUST(send(alone, "x", 1, MSG_NOSIGNAL) < 0 && errno == ENOTCONN && close(alone) == 0);
-    return "a send on a socket that was never connected says so";
-}
-
 int main(void) {
     setvbuf(stdout, NULL, _IOLBF, 0); /* No child inherits a line. */
     printf("low water: %s\n", check_low_water());
     printf("buffer: %s\n", check_buffer());
     check_reset(SOCK_STREAM);
     check_reset(SOCK_SEQPACKET);
-    printf("shutdown: %s\n", check_shutdown());
     return 0;
 }
