@@ -168,12 +168,12 @@ static long send_part(struct call *call, struct file *peer) {
 
 /* Returns what refuses a send before the layer is asked, or 0. */
 long refusal_of_send(struct call *call, const struct file *peer) {
-    bool is_stream = call->file->kind == JW_STREAM;
+    bool is_stream = call->file->kind == JW_STREAM, has_waited = call->waits_for == call->file->ino;
     if ((message.flags & MSG_OOB) && !(options.oob && is_stream)) return -EOPNOTSUPP;
     if (message.header.msg_namelen > 0 && is_stream) return peer != NULL ? -EISCONN : -EOPNOTSUPP;
     if (message.total > JW_MAX_BYTES && !is_stream) return -EMSGSIZE;
     if (!is_stream && take_reset(call->file)) return -ECONNRESET;
-    call->raises_sigpipe = is_stream && !(message.flags & MSG_NOSIGNAL);
+    call->raises_sigpipe = is_stream && !has_waited && !(message.flags & MSG_NOSIGNAL);
     return 0;
 }
 
