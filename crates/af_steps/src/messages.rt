@@ -91,7 +91,8 @@ impl Engine {
     /// step `Send`, for a caller that keeps the bytes and descriptors. They are copied once.
     /// Returns how many bytes were sent. Refused, in this order: ESRCH, EBADF, ENOTSOCK,
     /// EINVAL (no byte, or over 253 descriptors), EMSGSIZE (over 65,536 bytes), EBADF of an
-    /// attached descriptor, ENOTCONN, EPIPE, ETOOMANYREFS, ENOBUFS, EAGAIN, ENOMEM.
+    /// attached descriptor, ENOTCONN, EPIPE (the peer is gone, or the output is closed),
+    /// ETOOMANYREFS, ENOBUFS, EPIPE (the peer's input is closed), EAGAIN, ENOMEM.
     pub fn send(&mut self, pid: Pid, on: Fd, bytes: &[u8], attach: &[Fd]) -> Result<u32, Errno>
         ensures done { IfOk result (λ count.
             Does self.old pid (Step.Send on bytes.now attach.now) (Reply.Sent count) self.new) }
