@@ -14,10 +14,10 @@ use Rattle.af_base.specs.Counts.{count_in, refs}
 use Rattle.af_base.specs.Changes.{add_file}
 use Rattle.af_base.specs.Refusals.{is_full, is_listening, socket_of}
 use Rattle.af_base.specs.Steps.{connected_socket, idle_socket}
-use Rattle.af_base.specs.Whole.{IsWhole, IsWithin, name_at, state_at, state_of}
+use Rattle.af_base.specs.Whole.{IsWhole, IsWithin, bound_at, state_at, state_of}
 use Rattle.af_base.proofs.NewFiles.{fresh_file}
 use Rattle.af_base.proofs.Embryos.{waiting-add_file}
-use Rattle.af_base.proofs.SocketNames.{name-there, name_of, names-kept}
+use Rattle.af_base.proofs.SocketNames.{bound_of, name-there, names-kept}
 use Rattle.af_base.proofs.Lookups.{insert-here, insert-other, none_some, same_or_not, some_same, told_apart}
 use Rattle.af_base.proofs.Pairs.{refs-add_file}
 use Rattle.af_base.proofs.SettledWorlds.{none_in}
@@ -28,7 +28,7 @@ use Rattle.af_base.proofs.StaysWithin.{len-insert_most, neither, within-add_file
 pub record IsBlank (x : File) : Type 0 where
   pub empty : contents x ≡ []
   pub none_waits : backlog_of x ≡ []
-  pub unnamed : name_of x ≡ None
+  pub unnamed : bound_of x ≡ None
 
 -- A plain file is blank.
 pub blank-plain : IsBlank Plain
@@ -75,7 +75,8 @@ module _ (w : World) (x : File) (blank : IsBlank x) where
   ]
 
   -- The new file has no name.
-  pub name-blank : (f : ℕ) (name : List ℕ) → name_at new f ≡ Some name → name_at w f ≡ Some name
+  pub name-blank : (f : ℕ) (name : ℕ × List ℕ) → bound_at new f ≡ Some name
+      → bound_at w f ≡ Some name
   name-blank f name e = elim (which-blank f) [
     | inl s ↦ absurd (none_some name (sym (name-there new f (Some x) (ap (map.get new.files) s ∙ blank-there) ∙ blank.unnamed) ∙ e))
     | inr s ↦ name-there w f (map.get new.files f) (sym s) ∙ e

@@ -14,10 +14,10 @@ use Rattle.af_base.specs.World.{AsSocket, IsLive, Socket, World, is_live}
 use Rattle.af_base.specs.Places.{Holds, attached_in, contents, queue_of}
 use Rattle.af_base.specs.Counts.{one, waiting}
 use Rattle.af_base.specs.Changes.{dequeued, add_file, with_name, connected, listening, queued, shut, with_socket}
-use Rattle.af_base.specs.Names.{is_name}
+use Rattle.af_base.specs.Names.{is_name, set_of}
 use Rattle.af_base.specs.Refusals.{is_full, room_of}
 use Rattle.af_base.specs.Steps.{connected_socket, with_embryo}
-use Rattle.af_base.specs.Whole.{AreMutual, IsSocketWithin, IsWhole, IsWithin, name_at, state_at, state_of}
+use Rattle.af_base.specs.Whole.{AreMutual, IsSocketWithin, IsWhole, IsWithin, bound_at, state_at, state_of}
 use Rattle.af_base.proofs.NewFiles.{fresh_file}
 use Rattle.af_base.proofs.Embryos.{Contains-dropped, length-drop_most, waiting-accepted, waiting-add_file, waiting-changed, waiting-none, waiting-queued}
 use Rattle.af_base.proofs.PlacesAndCounts.{one-most}
@@ -33,9 +33,12 @@ within-still : (w : World) (s : ℕ) (g : Socket → Socket) (x : Socket) → Is
 within-still w s g x k at same fits = within-changed w s g k (λ y is. subst (λ z. IsSocketWithin (g z)) (socket_same x y (some_same _ _ (sym at ∙ is))) (fits (k.sockets s x at)))
     (let most = k.flying in omega (arith, most, total-changed (λ y. sum_by (λ m. length m.attached) (queue_of y)) w s g (λ y. ap (sum_by (λ m. length m.attached)) (same y))))
 
--- A socket that got a name that nobody had.
-pub whole-bound : (w : World) (s : ℕ) (given : List ℕ) → ((f : ℕ) → ¬ (name_at w f ≡ Some given)) → IsWhole w → IsWhole (with_socket w s (with_name given))
-whole-bound w s given none k = whole-socket w s (with_name given) (λ x f is h. inl h) (mutual-changed w s (with_name given) (λ x. refl) k.peers) (names-bound w s given none k.names) (once-changed w s (with_name given) (λ x. refl) k.embryos) k
+-- A socket that got a name that nobody had in its set.
+pub whole-bound : (w : World) (s : ℕ) (given : List ℕ) (x : Socket)
+    → map.get w.files s ≡ Some (AsSocket x)
+    → ((f : ℕ) → ¬ (bound_at w f ≡ Some (set_of x.kind, given))) → IsWhole w
+    → IsWhole (with_socket w s (with_name given))
+whole-bound w s given x at none k = whole-socket w s (with_name given) (λ x f is h. inl h) (mutual-changed w s (with_name given) (λ x. refl) k.peers) (names-bound w s given x at none k.names) (once-changed w s (with_name given) (λ x. refl) k.embryos) k
 
 -- A socket that got a name.
 pub within-bound : (w : World) (s : ℕ) (given : List ℕ) (x : Socket) → IsWithin w → map.get w.files s ≡ Some (AsSocket x) → is_name given ≡ true → IsWithin (with_socket w s (with_name given))

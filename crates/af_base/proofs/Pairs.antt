@@ -11,7 +11,7 @@ use Rattle.af_base.specs.Places.{Holds, contents}
 use Rattle.af_base.specs.Counts.{count_in, refs}
 use Rattle.af_base.specs.Changes.{add_file}
 use Rattle.af_base.specs.Steps.{connected_socket, with_pair}
-use Rattle.af_base.specs.Whole.{AreMutual, IsWhole, name_at, state_at, state_of}
+use Rattle.af_base.specs.Whole.{AreMutual, IsWhole, bound_at, state_at, state_of}
 use Rattle.af_base.proofs.Lookups.{insert-here, insert-other, none_some, same_or_not, told_apart}
 use Rattle.af_base.proofs.Embryos.{waiting-add_file}
 use Rattle.af_base.proofs.SocketNames.{name-there, names-kept}
@@ -104,7 +104,7 @@ module _ (w : World) (kind : SockType) where
   ]
 
   -- The new sockets have no name.
-  name_before : (f : ℕ) (name : List ℕ) → name_at new f ≡ Some name → name_at w f ≡ Some name
+  name_before : (f : ℕ) (name : ℕ × List ℕ) → bound_at new f ≡ Some name → bound_at w f ≡ Some name
   name_before f name e = elim (which f) [
     | inl s ↦ absurd (none_some name (sym (name-there new f (Some (AsSocket (connected_socket kind b))) (ap (map.get new.files) s ∙ first_there)) ∙ e))
     | inr r ↦ elim r [

@@ -17,7 +17,7 @@ use Rattle.af_base.specs.Pass.{Begins, GoesOn, Idle, Machine, Pass, PassesWhole,
 use Rattle.af_base.specs.Whole.{IsSocketWithin, IsSound, IsWhole, IsWithin, state_at, state_of}
 use Rattle.af_base.proofs.Elements.{Contains-none}
 use Rattle.af_base.proofs.Lookups.{none_some, some_same}
-use Rattle.af_base.proofs.SocketNames.{name-there, name_of, named-there, names-kept}
+use Rattle.af_base.proofs.SocketNames.{bound_of, name-there, named-there, names-kept}
 use Rattle.af_base.proofs.PurgeOrder.{from_emptied, get-emptied, live-emptied}
 use Rattle.af_base.proofs.Soundness.{sound-settles}
 use Rattle.af_base.proofs.Totals.{total-below, total-count}
@@ -63,13 +63,13 @@ module _ (t : ℕ → Bool) (w : World) where
     names = names-kept w (emptied t w) (λ f name e.
         let new = named-there (emptied t w) f name e in
         let was = emptied-was f new.0 new.1 in
-        name-there w f (Some was.0) was.1 ∙ sym (same_name (t f) was.0) ∙ ap name_of was.2 ∙ new.2) k.names;
+        name-there w f (Some was.0) was.1 ∙ sym (same_name (t f) was.0) ∙ ap bound_of was.2 ∙ new.2) k.names;
     embryos = λ f.
         let once = k.embryos f in
         let less = fewer (λ x. count_in f (backlog_of x)) (λ x. no_more f x) in
         omega (arith, once, less);
   } where
-    same_name : (b : Bool) (x : File) → name_of (if b then empty_file x else x) ≡ name_of x
+    same_name : (b : Bool) (x : File) → bound_of (if b then empty_file x else x) ≡ bound_of x
     same_name true Plain = refl
     same_name true (AsSocket s) = refl
     same_name false x = refl

@@ -158,7 +158,7 @@ effect-faces w p (step.Bind k name) f low n = face-kept w (ino_on w p k) (with_n
 effect-faces w p (step.Listen k b) f low n = face-other w (ino_on w p k) (listening b) f (not-first (ino_on w p k) [] f n)
 effect-faces w p (step.Connect k name) f low n =
     let c = ino_on w p k in
-    let l = ino_named w name in
+    let l = ino_named w (socket_on w p k).kind name in
     let made = add_file w (AsSocket (connected_socket _ c)) in
     face-other (with_socket made c (connected w.next_ino)) l (queued w.next_ino) f (not-first l [] f (λ h. n (Contains-later c (l ∷ []) f h)))
     ∙ face-other made c (connected w.next_ino) f (not-first c (l ∷ []) f n)

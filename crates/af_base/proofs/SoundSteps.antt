@@ -20,7 +20,7 @@ use Rattle.af_base.specs.World.{AsSocket, File, IsLive, Plain, Process, Socket, 
 use Rattle.af_base.specs.Places.{InTable, attached_in, contents, queue_at, queue_of, table_at}
 use Rattle.af_base.specs.Counts.{total}
 use Rattle.af_base.specs.Changes.{dequeued, add_file, install, with_queue}
-use Rattle.af_base.specs.Names.{named}
+use Rattle.af_base.specs.Names.{named, set_of}
 use Rattle.af_base.specs.Reached.{ByTable, BySocket}
 use Rattle.af_base.specs.Refusals.{RefusalRow, first_fit, ino_named, ino_on, is_connected, is_hung_up, is_listening, is_short, no_process, no_socket, peer_of, process_at, refusal, room_of, socket_at, socket_named, socket_of, socket_on, spawn_refusal, spawn_row, step_row}
 use Rattle.af_base.specs.Steps.{Outcome, ProcessStep, SpawnStep, answer, closes_input, closes_output, effect, first_embryo, free_at, got_at, idle_socket, needs_no_memory, spawned, taken_on, with_pair}
@@ -120,8 +120,10 @@ no_one None e = refl
 no_one (Some f) e = absurd (false≢true (sym e))
 
 -- A name that gives a listener is that of a socket that is there.
-pub listener-there : (w : World) (name : List ℕ) → not (is_listening (socket_named w name).state) ≡ false → map.get w.files (ino_named w name) ≡ Some (AsSocket (socket_named w name))
-listener-there w name = by (named w.files name) where
+pub listener-there : (w : World) (kind : SockType) (name : List ℕ)
+    → not (is_listening (socket_named w kind name).state) ≡ false
+    → map.get w.files (ino_named w kind name) ≡ Some (AsSocket (socket_named w kind name))
+listener-there w kind name = by (named w.files (set_of kind) name) where
   at : (o : Option File) → not (is_listening (unwrap_or (option_and_then socket_of o) no_socket).state) ≡ false → o ≡ Some (AsSocket (unwrap_or (option_and_then socket_of o) no_socket))
   at None e = absurd (false≢true (sym e))
   at (Some Plain) e = absurd (false≢true (sym e))
@@ -223,7 +225,7 @@ module _ (w : World) (p : ℕ) (whole : IsWhole w) (at : map.get w.processes p �
   names n name row =
       let fresh = row.rest.rest in
       let parts = neither _ _ fresh.here in
-      changed-name (unchanged w) (ino_on w p n) name (socket_on w p n) (socket-there w p n row.here row.rest.here) (holds parts.1) (no_one (named w.files name) fresh.rest.here)
+      changed-name (unchanged w) (ino_on w p n) name (socket_on w p n) (socket-there w p n row.here row.rest.here) (holds parts.1) (no_one (named w.files (set_of (socket_on w p n).kind) name) fresh.rest.here)
 
   -- A socket that listens.
   listens : (n b : ℕ) → NoneFits (step_row w p (step.Listen n b)) → Changed w (effect w p (step.Listen n b))
@@ -238,17 +240,18 @@ module _ (w : World) (p : ℕ) (whole : IsWhole w) (at : map.get w.processes p �
   connects : (n : ℕ) (name : List ℕ) → NoneFits (step_row w p (step.Connect n name)) → Changed w (effect w p (step.Connect n name))
   connects n name row =
       let s = socket_on w p n in
-      let listener = socket_named w name in
+      let l = ino_named w s.kind name in
+      let listener = socket_named w s.kind name in
       let there = socket-there w p n row.here row.rest.here in
       let deaf = row.rest.rest in
       let heard = deaf.rest.rest in
       let listens = (neither _ _ heard.here).0 in
-      let listener_is = listener-there w name listens in
+      let listener_is = listener-there w s.kind name listens in
       let room = heard.rest.rest in
-      let apart = told_apart (ino_named w name) (ino_on w p n) (λ same.
+      let apart = told_apart l (ino_on w p n) (λ same.
       let one_socket : listener ≡ s = socket_same listener s (some_same _ _ (sym listener_is ∙ ap (map.get w.files) same ∙ there)) in
       false≢true (sym deaf.here ∙ ap (λ x. is_listening x.state) (sym one_socket) ∙ holds listens)) in
-      changed-embryo (unchanged w) (ino_on w p n) (ino_named w name) listener.kind s listener there (never-connected s.state deaf.rest.here deaf.here) listener_is apart room.rest.here (leb-false (room_of listener.state) (length listener.backlog) room.here) (omega arith)
+      changed-embryo (unchanged w) (ino_on w p n) l listener.kind s listener there (never-connected s.state deaf.rest.here deaf.here) listener_is apart room.rest.here (leb-false (room_of listener.state) (length listener.backlog) room.here) (omega arith)
 
   -- An embryo accepted.
   accepts : (n : ℕ) → NoneFits (step_row w p (step.Accept n)) → Changed w (effect w p (step.Accept n))

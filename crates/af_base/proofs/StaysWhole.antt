@@ -13,6 +13,7 @@ use Rattle.af_base.specs.Places.{Holds, InTable, attached_in, contents, queue_of
 use Rattle.af_base.specs.Counts.{refs}
 use Rattle.af_base.specs.Unheld.{Settles, Unheld, Goes, file_without, state_without, without}
 use Rattle.af_base.specs.Changes.{change_at, install, push_message, uninstall, with_queue, with_socket}
+use Rattle.af_base.specs.Names.{bound_to}
 use Rattle.af_base.specs.Whole.{AreMutual, IsWhole, state_at, state_of}
 use Rattle.af_base.proofs.SettledWorlds.{from_without, get-without, live-without, stays}
 use Rattle.af_base.proofs.Places.{carried-push}
@@ -135,7 +136,9 @@ pub once-changed : (w : World) (s : ℕ) (g : Socket → Socket) → ((x : Socke
 once-changed w s g same once f = let before = once f in omega (arith, before, waiting-changed w s g same f)
 
 -- A socket changed in nothing but its queue, with live files only.
-pub whole-changed : (w : World) (s : ℕ) (g : Socket → Socket) → ((x : Socket) → (g x).state ≡ x.state) → ((x : Socket) → (g x).name ≡ x.name) → ((x : Socket) → (g x).backlog ≡ x.backlog)
+pub whole-changed : (w : World) (s : ℕ) (g : Socket → Socket)
+    → ((x : Socket) → (g x).state ≡ x.state) → ((x : Socket) → bound_to (g x) ≡ bound_to x)
+    → ((x : Socket) → (g x).backlog ≡ x.backlog)
     → ((x : Socket) (f : ℕ) → map.get w.files s ≡ Some (AsSocket x) → Contains (contents (AsSocket (g x))) f → Contains (contents (AsSocket x)) f ⊎ IsLive w f)
     → IsWhole w → IsWhole (with_socket w s g)
 whole-changed w s g state name backlog gain k = whole-socket w s g gain (mutual-changed w s g state k.peers) (names-changed w s g name k.names) (once-changed w s g backlog k.embryos) k

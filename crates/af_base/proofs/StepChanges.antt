@@ -10,7 +10,7 @@ use Rattle.af_base.specs.World.{AsSocket, File, IsLive, Map, Message, Plain, Pro
 use Rattle.af_base.specs.Places.{Holds, InTable, contents}
 use Rattle.af_base.specs.Counts.{total}
 use Rattle.af_base.specs.Changes.{add_file, add_process, add_user, connected, dequeued, install, install_all, listening, push_message, pushed, queued, remove_process, set_limit, shut, uninstall, with_name, with_queue, with_socket}
-use Rattle.af_base.specs.Names.{is_name, named}
+use Rattle.af_base.specs.Names.{is_name, named, set_of}
 use Rattle.af_base.specs.Reached.{Reached}
 use Rattle.af_base.specs.Refusals.{is_at_process_limit, is_full, room_of}
 use Rattle.af_base.specs.Steps.{connected_socket, idle_socket, with_embryo, with_pair}
@@ -130,9 +130,11 @@ module _ {old w : World} (c : Changed old w) where
         fits = λ k. let j = c.fits k in (whole-embryo w s l kind x y j.0 there idle listens apart, within-embryo w s l kind x y j.0 there idle listens apart j.1 room waits);
       }
 
-  -- A socket gets a name.
-  pub changed-name : (s : ℕ) (name : List ℕ) (x : Socket) → map.get w.files s ≡ Some (AsSocket x) → is_name name ≡ true → named w.files name ≡ None → Changed old (with_socket w s (with_name name))
-  changed-name s name x at fits free = sets s (with_name name) (still-holds old w s (with_name name) (λ z. refl)) (λ k. (whole-bound w s name (named-none w name free) k.0, within-bound w s name x k.1 at fits))
+  -- A socket gets a name, which is free in its set.
+  pub changed-name : (s : ℕ) (name : List ℕ) (x : Socket) → map.get w.files s ≡ Some (AsSocket x)
+      → is_name name ≡ true → named w.files (set_of x.kind) name ≡ None
+      → Changed old (with_socket w s (with_name name))
+  changed-name s name x at fits free = sets s (with_name name) (still-holds old w s (with_name name) (λ z. refl)) (λ k. (whole-bound w s name x at (named-none w (set_of x.kind) name free) k.0, within-bound w s name x k.1 at fits))
 
   -- A socket becomes a listener.
   pub changed-listen : (s b : ℕ) (x : Socket) → map.get w.files s ≡ Some (AsSocket x) → x.state ≡ state.Idle → 1 ≤ b → b ≤ MAX_BACKLOG → Changed old (with_socket w s (listening b))

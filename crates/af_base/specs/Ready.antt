@@ -79,7 +79,7 @@ face_at w f = face_in w.files f
 -- there, but for those whose peer is freed.
 abbrev pub touched : World → ℕ → Step → List ℕ
 touched w p (step.Listen n b) = ino_on w p n ∷ []
-touched w p (step.Connect n name) = ino_on w p n ∷ ino_named w name ∷ []
+touched w p (step.Connect n name) = ino_on w p n ∷ ino_named w (socket_on w p n).kind name ∷ []
 touched w p (step.Accept n) = ino_on w p n ∷ []
 touched w p (step.Send n bytes attach) = peer_of (socket_on w p n).state ∷ []
 touched w p (step.Recv n max_bytes max_fds) = ino_on w p n ∷ []

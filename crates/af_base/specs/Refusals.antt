@@ -16,7 +16,7 @@ use Rattle.af_base.specs.declared.limits.TheConstants.{MAX_PROCESSES, MAX_NOFILE
 use Rattle.af_base.specs.World.{World, Map, Message, Process, Socket, File, Plain, AsSocket, open_ends}
 use Rattle.af_base.specs.Places.{table_at, queue_at}
 use Rattle.af_base.specs.Counts.{charged, total}
-use Rattle.af_base.specs.Names.{is_between, is_name, named}
+use Rattle.af_base.specs.Names.{is_between, is_name, named, set_of}
 use Rattle.af_base.specs.Table.{free_numbers}
 
 -- Stands for a process that is not there. Stand-ins are never seen: a row's later tests are read
@@ -111,13 +111,15 @@ peer_of (state.Listening b) = 0
 peer_of (state.Connected q) = q
 peer_of state.HungUp = 0
 
--- The inode number of the live socket of this name, or 0, which is none.
-abbrev pub ino_named : World → List ℕ → ℕ
-ino_named w name = unwrap_or (named w.files name) 0
+-- The inode number of the live socket that a socket of this type finds by this name, or 0, which is
+-- none.
+abbrev pub ino_named : World → SockType → List ℕ → ℕ
+ino_named w kind name = unwrap_or (named w.files (set_of kind) name) 0
 
--- The live socket of this name.
-abbrev pub socket_named : World → List ℕ → Socket
-socket_named w name = unwrap_or (option_and_then (socket_at w) (named w.files name)) no_socket
+-- The live socket that a socket of this type finds by this name.
+abbrev pub socket_named : World → SockType → List ℕ → Socket
+socket_named w kind name =
+    unwrap_or (option_and_then (socket_at w) (named w.files (set_of kind) name)) no_socket
 
 -- Whether fewer than k descriptors of the table are free (open(2), EMFILE).
 abbrev pub is_short : Process → ℕ → Bool
@@ -284,12 +286,16 @@ step_row w p step.Fork = on_processes w
 step_row w p step.Exit = []
 step_row w p (step.Pair kind) = on_free (process_at w p) 2 ++ on_files w 2
 step_row w p (step.Socket kind) = on_free (process_at w p) 1 ++ on_files w 1
-step_row w p (step.Bind n name) = at_socket w p n ++ on_bind (socket_on w p n) name
-    ++ on_name (named w.files name)
+step_row w p (step.Bind n name) =
+    let s = socket_on w p n in
+    at_socket w p n ++ on_bind s name ++ on_name (named w.files (set_of s.kind) name)
 step_row w p (step.Listen n b) = at_socket w p n ++ on_listen (socket_on w p n) b
 step_row w p (step.Connect n name) =
     let s = socket_on w p n in
-    at_socket w p n ++ on_client s.state ++ on_listener (socket_named w name) s.kind ++ on_files w 1
+    at_socket w p n
+    ++ on_client s.state
+    ++ on_listener (socket_named w s.kind name) s.kind
+    ++ on_files w 1
 step_row w p (step.Accept n) =
     at_socket w p n ++ on_accept (socket_on w p n) ++ on_free (process_at w p) 1
 step_row w p (step.Send n bytes attach) =

@@ -110,7 +110,8 @@ effect w p (step.Socket kind) = install (add_file w (AsSocket (idle_socket kind)
 effect w p (step.Bind n name) = with_socket w (ino_on w p n) (with_name name)
 effect w p (step.Listen n b) = with_socket w (ino_on w p n) (listening b)
 effect w p (step.Connect n name) =
-    with_embryo w (ino_on w p n) (ino_named w name) (socket_named w name).kind
+    let kind = (socket_on w p n).kind in
+    with_embryo w (ino_on w p n) (ino_named w kind name) (socket_named w kind name).kind
 effect w p (step.Accept n) = install (with_socket w (ino_on w p n) dequeued) p (free_at w p 0)
     (first_embryo w p n)
 effect w p (step.Send n bytes attach) = push_message w (peer_of (socket_on w p n).state) (record {

@@ -10,7 +10,7 @@ use Rattle.af_base.specs.declared.limits.TheConstants.{MAX_PROCESSES, MAX_NOFILE
 use Rattle.af_base.specs.World.{World, Process, Socket, File, Plain, AsSocket, Message, IsLive}
 use Rattle.af_base.specs.Places.{InTable, Holds}
 use Rattle.af_base.specs.Counts.{total, waiting}
-use Rattle.af_base.specs.Names.{is_name}
+use Rattle.af_base.specs.Names.{bound_to, is_name}
 use Rattle.af_base.specs.Refusals.{is_listening, room_of, socket_at}
 use Rattle.af_base.specs.Unheld.{IsSettled}
 
@@ -31,9 +31,13 @@ AreMutual w = (f p : ℕ) → state_at w f ≡ state.Connected p → state_at w 
 abbrev pub name_at : World → ℕ → Option (List ℕ)
 name_at w f = option_and_then (λ s. s.name) (socket_at w f)
 
--- The world is whole: each place holds a live file, peers are mutual, no two sockets have one name,
--- no file is in two backlogs, and the numbers given are below the next ones; the next ones and the
--- files' numbers begin at 1, so 0 is no file.
+-- What the file f is bound to, if it is a socket that has a name: the set, and the name (bind(2)).
+abbrev pub bound_at : World → ℕ → Option (ℕ × List ℕ)
+bound_at w f = option_and_then bound_to (socket_at w f)
+
+-- The world is whole: each place holds a live file, peers are mutual, no two sockets have one name
+-- in one set, no file is in two backlogs, and the numbers given are below the next ones; the next
+-- ones and the files' numbers begin at 1, so 0 is no file.
 pub record IsWhole (w : World) : Type 0 where
   pub tables_live : (f : ℕ) → InTable w f → IsLive w f
   pub queues_live : (s f : ℕ) → Holds w s f → IsLive w f
@@ -43,7 +47,8 @@ pub record IsWhole (w : World) : Type 0 where
   pub next_ino : 0 < w.next_ino
   pub next_pid : 0 < w.next_pid
   pub peers : AreMutual w
-  pub names : (f g : ℕ) (name : List ℕ) → name_at w f ≡ Some name → name_at w g ≡ Some name → f ≡ g
+  pub names : (f g : ℕ) (name : ℕ × List ℕ) → bound_at w f ≡ Some name → bound_at w g ≡ Some name
+      → f ≡ g
   pub embryos : (f : ℕ) → waiting w f ≤ 1
 
 -- A process whose limit is at most the largest one, and whose open descriptors are below that. A
