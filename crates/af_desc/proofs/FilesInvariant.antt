@@ -9,7 +9,9 @@ use Rattle.std.proofs.lemmas.Bool.{ltb-false, ltb-true, false≢true, and_parts,
 use Rattle.std.proofs.Math.Bool.{and-false}
 use Rattle.std.specs.Int.{from_bool}
 use Rattle.std.proofs.lemmas.List.Sums.{sum_by-append}
+use Rattle.af_base.specs.declared.events.SockType.TheVariants.{Stream}
 use Rattle.af_base.specs.Counts.{total_of, count_in, one}
+use Rattle.af_base.specs.Names.{bound_to, set_of}
 use Rattle.af_base.specs.World.{Map, File, Socket}
 use Rattle.af_base.proofs.Lookups.{none_some, changed-live, itself}
 use Rattle.af_base.proofs.Sums.{total-insert}
@@ -195,7 +197,7 @@ module _ {embryos bound white : ℕ} (old new : FileTableView) (ws : List ℕ) (
   filed-reserved vs space gs wide is unreferenced more greys wider few least = let low = h.last in let fits = h.fits in record {
     last = omega (arith, low, ap (λ r. r.last) is);
     begins = ap (λ r. map.contains_key r.files 0) is ∙ h.begins;
-    named = subst (AreNamed names) (sym (ap (λ r. r.files) is)) h.named;
+    named = subst (AreNamed (set_of Stream) names) (sym (ap (λ r. r.files) is)) h.named;
     unreferenced_listed = subst (AreUnreferenced new.counts) (sym unreferenced) (subst (λ m. AreUnreferenced m ws) (sym (ap (λ r. r.counts) is)) h.unreferenced_listed);
     fits = omega (arith, fits, more, ap (λ r. map.len r.counts) is);
     listed = listed-same old.marks new.marks epoch grey most h.listed gs wide (ap (λ r. r.marks) is) greys wider;
@@ -214,18 +216,27 @@ module _ {embryos bound white : ℕ} (old new : FileTableView) (ws : List ℕ) (
   filed-marked m gs wide is listed wider n whites = filed-renewed m epoch bound gs wide is listed wider n whites
 
   -- Other files of the same numbers, with the names that are theirs.
-  pub filed-named : (fs : Map File) (left : NamesView) → new ≡ record old { files = fs } → map.contains_key fs 0 ≡ false → AreNamed left fs → FilesInvariant new ws room left next epoch grey most embryos bound white
+  pub filed-named : (fs : Map File) (left : NamesView) → new ≡ record old { files = fs }
+      → map.contains_key fs 0 ≡ false → AreNamed (set_of Stream) left fs
+      → FilesInvariant new ws room left next epoch grey most embryos bound white
   filed-named fs left is begins named = subst (λ r. FilesInvariant r ws room left next epoch grey most embryos bound white) (sym is) (record { last = h.last; begins = begins; named = named; unreferenced_listed = h.unreferenced_listed; fits = h.fits; listed = h.listed; backlogged = h.backlogged; whites = h.whites; space = h.space })
 
   -- A socket changes, but for its name, and there is room for a message more or less.
-  pub socket_changed : {b : Bool} (f : ℕ) (g : Socket → Socket) → ((s : Socket) → (g s).name ≡ s.name) → new ≡ record old { files = change_socket_at g old.files f; message_room = b } → FilesInvariant new ws room names next epoch grey most embryos bound white
+  pub socket_changed : {b : Bool} (f : ℕ) (g : Socket → Socket)
+      → ((s : Socket) → bound_to (g s) ≡ bound_to s)
+      → new ≡ record old { files = change_socket_at g old.files f; message_room = b }
+      → FilesInvariant new ws room names next epoch grey most embryos bound white
   socket_changed f g same is =
       let begins = changed-live (file_with g) old.files f 0 ∙ h.begins in
       subst (λ r. FilesInvariant r ws room names next epoch grey most embryos bound white) (sym is)
-      (record { last = h.last; begins = begins; named = named-changed names old.files f g same h.named; unreferenced_listed = h.unreferenced_listed; fits = h.fits; listed = h.listed; backlogged = h.backlogged; whites = h.whites; space = h.space })
+      (record { last = h.last; begins = begins; named = named-changed (set_of Stream) names old.files f g same h.named; unreferenced_listed = h.unreferenced_listed; fits = h.fits; listed = h.listed; backlogged = h.backlogged; whites = h.whites; space = h.space })
 
   -- Or nothing does, where memory is refused.
-  pub socket_either : {A B : Type 0} (b : Bool) (r : Result A B) (f : ℕ) (g : Socket → Socket) → ((s : Socket) → (g s).name ≡ s.name) → OnOk r (new ≡ record old { files = change_socket_at g old.files f; message_room = b }) → OnErr r (new ≡ old) → FilesInvariant new ws room names next epoch grey most embryos bound white
+  pub socket_either : {A B : Type 0} (b : Bool) (r : Result A B) (f : ℕ) (g : Socket → Socket)
+      → ((s : Socket) → bound_to (g s) ≡ bound_to s)
+      → OnOk r (new ≡ record old { files = change_socket_at g old.files f; message_room = b })
+      → OnErr r (new ≡ old)
+      → FilesInvariant new ws room names next epoch grey most embryos bound white
   socket_either b (Ok a) f g same ok err = socket_changed f g same ok
   socket_either b (Err e) f g same ok err = subst (λ r. FilesInvariant r ws room names next epoch grey most embryos bound white) (sym err) h
 
@@ -242,7 +253,7 @@ module _ {embryos bound white : ℕ} (old new : FileTableView) (ws : List ℕ) (
   filed-entered x p is stranger uncounted_before unmarked_before nameless fits few k embryo = let low = h.last in record {
     last = omega (arith, ap (λ r. r.last) is);
     begins = ap (λ r. map.contains_key r.files 0) is ∙ begun-made old.files next x (omega (arith, low)) h.begins;
-    named = subst (AreNamed names) (sym (ap (λ r. r.files) is)) (named-new names old.files h.named next x stranger nameless);
+    named = subst (AreNamed (set_of Stream) names) (sym (ap (λ r. r.files) is)) (named-new (set_of Stream) names old.files h.named next x stranger nameless);
     unreferenced_listed = just-same (λ c. nat_eq (places_in c) 0) old.counts new.counts ws next h.unreferenced_listed (more p uncounted) (ap (λ r. r.counts) is) (first-place p (map.get old.counts next) uncounted_before);
     fits = omega (arith, fits, ap (λ r. map.len r.counts) is, len-insert_most old.counts next (more p uncounted));
     listed = listed-born old.marks new.marks epoch grey most h.listed next most (ap (λ r. r.marks) is) unmarked_before (omega (arith, few, ap (λ r. map.len r.marks) is, len-insert_most old.marks next unmarked));
@@ -252,13 +263,16 @@ module _ {embryos bound white : ℕ} (old new : FileTableView) (ws : List ℕ) (
   }
 
   -- A file less that was not grey, with the names and the unreferenced ones that are left.
-  pub filed-removed : (k : ℕ) (left : NamesView) (vs : List ℕ) (space : ℕ) → new ≡ without_row k new.room new.space old → new.space ≤ old.space → AreNamed left (map.remove old.files k) → ((f : ℕ) → count_in f vs ≡ count_in f ws - one f k) → room ≤ space
+  pub filed-removed : (k : ℕ) (left : NamesView) (vs : List ℕ) (space : ℕ)
+      → new ≡ without_row k new.room new.space old → new.space ≤ old.space
+      → AreNamed (set_of Stream) left (map.remove old.files k)
+      → ((f : ℕ) → count_in f vs ≡ count_in f ws - one f k) → room ≤ space
       → option_map_or is_grey_color (map.get (colors_in epoch old.marks) k) false ≡ false → (n : ℕ) → white_count (record { colors = map.remove (colors_in epoch old.marks) k; bound = bound }) ≤ n
       → FilesInvariant new vs space left next epoch grey most embryos bound n
   filed-removed k left vs space is narrow named off more spared n few = let low = h.last in let fits = h.fits in record {
     last = omega (arith, low, ap (λ r. r.last) is);
     begins = ap (λ r. map.contains_key r.files 0) is ∙ begun-removed old.files k h.begins;
-    named = subst (AreNamed left) (sym (ap (λ r. r.files) is)) named;
+    named = subst (AreNamed (set_of Stream) left) (sym (ap (λ r. r.files) is)) named;
     unreferenced_listed = just-gone (λ c. nat_eq (places_in c) 0) old.counts new.counts ws k h.unreferenced_listed vs (ap (λ r. r.counts) is) off;
     fits = omega (arith, fits, more, ap (λ r. map.len r.counts) is, gone_few old.counts k);
     listed = listed-gone old.marks new.marks epoch grey most h.listed k (ap (λ r. r.marks) is) spared;

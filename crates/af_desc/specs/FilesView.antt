@@ -2,13 +2,15 @@
 -- project's own.
 use Rattle.std.specs.Prelude.{◌∷◌, ◌≡◌, ◌↔◌, ◌&&◌, ◌<◌, ◌≤◌, ℕ, ◌+◌, ◌-◌, ◌^◌, Bool, List, None, Option, Some, drop, false, is_some, nat_lt, unwrap_or, if◌then◌else◌}
 use Rattle.std.specs.Option.{option_and_then}
-use Rattle.af_base.specs.declared.events.SockType.{SockType}
 use Rattle.std.specs.FinMap as map
+use Rattle.af_base.specs.declared.events.SockType.{SockType}
+use Rattle.af_base.specs.declared.events.SockType.TheVariants.{Stream}
 use Rattle.af_base.specs.declared.events.State.{State}
 use Rattle.af_base.specs.declared.events.State.TheVariants as state
 use Rattle.af_base.specs.World.{AsSocket, File, Map, Message, Since, Socket}
 use Rattle.af_base.specs.Changes.{change_socket_at}
 use Rattle.af_base.specs.Counts.{total_of}
+use Rattle.af_base.specs.Names.{bound_to, set_of}
 use Rattle.af_base.specs.Refusals.{is_full_of, no_socket, socket_of}
 use Rattle.af_base.specs.Steps.{connected_socket}
 use Rattle.af_base.specs.Take.{take_from}
@@ -139,10 +141,15 @@ name_of x = option_and_then (λ s. s.name) (socket_of x)
 abbrev pub name_in : Map File → ℕ → Option (List ℕ)
 name_in files f = option_and_then (λ s. s.name) (socket_in files f)
 
--- The names are just those of these files: a name leads to the one socket that has it (unix(7),
--- abstract names).
-pub record AreNamed (names : NamesView) (files : Map File) : Type 0 where
-  pub each : (name : List ℕ) (f : ℕ) → (map.get names name ≡ Some f) ↔ (name_in files f ≡ Some name)
+-- What the file f of these is bound to: the set, and the name (bind(2)).
+abbrev pub bound_in : Map File → ℕ → Option (ℕ × List ℕ)
+bound_in files f = option_and_then bound_to (socket_in files f)
+
+-- The names are just those of these files in this set: a name leads to the one socket that has it
+-- there (unix(7), abstract names).
+pub record AreNamed (set : ℕ) (names : NamesView) (files : Map File) : Type 0 where
+  pub each : (name : List ℕ) (f : ℕ)
+      → (map.get names name ≡ Some f) ↔ (bound_in files f ≡ Some (set, name))
 
 -- No more places are in backlogs than this number, unless it is as large as it can get.
 abbrev pub AreEmbryos : Map CountView → ℕ → Type 0
@@ -166,15 +173,15 @@ abbrev pub AreWhite : Map MarkView → ℕ → ℕ → ℕ → ℕ → Type 0
 AreWhite marks epoch bound next n = (bound ≤ next)
     × (white_count (record { colors = colors_in epoch marks; bound = bound }) ≤ n)
 
--- Numbers begin at 1 and rise; the names are those of the files; one list has just the unreferenced
--- files and one just the grey ones, with room for all, and for as many as the rows say; the embryos
--- and the files that a pass has still to mark are at most the numbers kept.
+-- Numbers begin at 1 and rise; the names are those of the files, all in one set; one list has just
+-- the unreferenced files and one just the grey ones, with room for all, and for as many as the rows
+-- say; the embryos and the files that a pass has still to mark are at most the numbers kept.
 pub record FilesInvariant (rows : FileTableView) (unreferenced : List ℕ) (room : ℕ)
     (names : NamesView) (next epoch : ℕ) (grey : List ℕ)
     (most embryos bound white : ℕ) : Type 0 where
   pub last : rows.last + 1 ≡ next
   pub begins : map.contains_key rows.files 0 ≡ false
-  pub named : AreNamed names rows.files
+  pub named : AreNamed (set_of Stream) names rows.files
   pub unreferenced_listed : AreUnreferenced rows.counts unreferenced
   pub fits : map.len rows.counts ≤ room
   pub listed : IsGreyList rows.marks epoch grey most

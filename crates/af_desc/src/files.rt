@@ -5,7 +5,7 @@ ghost use Rattle.std.specs.Prelude.{drop, true, vec_capacity};
 ghost use Rattle.std.specs.FinMap as map;
 ghost use Rattle.af_base.specs.World as world;
 ghost use Rattle.af_base.specs.Places.{backlog_in, queue_in};
-ghost use Rattle.af_base.specs.Names.{named};
+ghost use Rattle.af_base.specs.Names.{named, set_of};
 ghost use Rattle.af_base.specs.Changes.{connected, dequeued, listening, pushed, queued, shut, with_name};
 ghost use Rattle.af_base.specs.Refusals.{room_of};
 ghost use Rattle.af_base.specs.Steps.{connected_socket, idle_socket};
@@ -14,6 +14,7 @@ ghost use Rattle.af_base.specs.Whole.{IsMessageWithin};
 ghost use Rattle.af_base.specs.World.{untold};
 ghost use Rattle.af_mark.specs.MarksView.{is_grey, is_unmarked};
 ghost use Rattle.af_desc.specs.FileTableView.{file_of};
+ghost use Rattle.af_base.specs.declared.events.SockType.TheVariants.{Stream};
 ghost use Rattle.af_desc.specs.FilesView.{AreNamed, after_end, changed, changed_queue, entered};
 ghost use Rattle.af_desc.specs.FilesView.{freed, is_full, is_live, is_unmarked_socket, name_of};
 ghost use Rattle.af_desc.specs.FilesView.{paired, received_from, received_of, socket_in, without};
@@ -55,6 +56,7 @@ pub struct Files {
     /// Files from this number on were made since the pass began.
     pub(crate) bound: u64,
     pub(crate) next: u64,
+    /// The names, which all types of sockets have in one set.
     pub(crate) names: Names,
     /// At least the number of embryos: at the largest `u64` it no longer changes.
     pub(crate) embryos: u64,
@@ -171,13 +173,15 @@ impl Files {
         self.rows.socket(file)
     }
 
-    /// Returns the socket with the abstract name `name`, if there is one (unix(7)): one look-up,
-    /// for any number of names.
+    /// Returns the socket with the abstract name `name` in the set of the sockets of this type, if
+    /// there is one (unix(7)): one look-up, for any number of names.
     #[inline(always)]
-    pub fn find_name(&self, name: &[u8]) -> Option<FileRef>
-        ensures { result ≡ named self.now.files name.now }
+    pub fn find_name(&self, kind: SockType, name: &[u8]) -> Option<FileRef>
+        ensures { result ≡ named self.now.files (set_of kind) name.now }
     {
-        self.names.find(name)
+        match kind {
+            SockType::Stream | SockType::Seqpacket => self.names.find(name),
+        }
     }
 
     /// Returns the file with the least number above `ino`, if there is one, and the position behind
@@ -410,11 +414,12 @@ impl Files {
         self.rows.shut(file, input, output);
     }
 
-    /// Gives a nameless socket this name, which is free (bind(2)). Ignores a plain or unknown file.
-    /// On an error nothing has changed.
+    /// Gives a nameless socket this name, which is free in the set of its type (bind(2)). Ignores a
+    /// plain or unknown file. On an error nothing has changed.
     pub fn bind(&mut self, file: &FileRef, name: &[u8]) -> Result<(), AllocError>
         requires nameless { IfSome (socket_in self.old.files file.now) (λ s. s.name ≡ None) }
-        requires free { named self.old.files name.now ≡ None }
+        requires free { IfSome (socket_in self.old.files file.now) (λ s.
+            named self.old.files (set_of s.kind) name.now ≡ None) }
         ensures ok { OnOk result (self.new ≡ changed (with_name name.now) file.now self.old) }
         ensures err { OnErr result (self.new ≡ self.old) }
     {
@@ -571,8 +576,9 @@ fn reserve_anew(
 /// Frees the name of a file that was removed, if it had one.
 #[inline(always)]
 fn free_name(names: &mut Names, gone: &FileKind)
-    ensures { (files : world.Map world.File) (f : ℕ) → AreNamed names.old files
-        → gone.now ≡ socket_in files f → AreNamed names.new (map.remove files f) }
+    ensures { (files : world.Map world.File) (f : ℕ) → AreNamed (set_of Stream) names.old files
+        → gone.now ≡ socket_in files f
+        → AreNamed (set_of Stream) names.new (map.remove files f) }
 {
     if let Some(name) = gone.name() {
         names.unbind(name.as_slice());

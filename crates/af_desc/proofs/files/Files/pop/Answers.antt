@@ -1,5 +1,6 @@
 use Rattle.std.proofs.Common.{rules, ◌≡◌, refl}
 use Rattle.std.specs.Prelude.{None, Option, Some}
+use Rattle.af_base.specs.Names.{bound_to}
 use Rattle.af_base.specs.World.{Socket}
 use Rattle.af_desc.specs.Holding.{without_popped}
 use Rattle.af_desc.specs.declared.contents.Popped.{Popped}
@@ -7,8 +8,8 @@ use Rattle.af_desc.specs.declared.contents.Popped.TheVariants.{Embryo, Message}
 use Rattle.af_desc.proofs.FilesInvariant.{socket_changed}
 use Rattle.af_desc.proofs.files.Files.pop.Goals as goal
 
--- A pop changes no name.
-same-name : (o : Option Popped) (s : Socket) → (without_popped o s).name ≡ s.name
+-- A pop changes no name and no type.
+same-name : (o : Option Popped) (s : Socket) → bound_to (without_popped o s) ≡ bound_to s
 same-name (Some (Message user)) s = refl
 same-name (Some (Embryo f)) s = refl
 same-name None s = refl
