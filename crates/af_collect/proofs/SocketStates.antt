@@ -15,7 +15,7 @@ use Rattle.af_base.specs.Refusals.{no_socket, socket_at, socket_of, is_full, roo
 use Rattle.af_base.specs.Whole.{IsMessageWithin, IsWhole, IsWithin}
 use Rattle.af_base.specs.declared.events.SockType.{SockType}
 use Rattle.af_base.specs.declared.events.State.TheVariants as state
-use Rattle.af_base.specs.Names.{is_name, named}
+use Rattle.af_base.specs.Names.{is_name, named, set_of}
 use Rattle.af_base.specs.Steps.{idle_socket, connected_socket}
 use Rattle.af_base.proofs.Connections.{whole-bound, whole-listening, whole-shut, within-bound, within-listening, within-shut, whole-made, whole-queued, within-made, within-queued, live-embryo}
 use Rattle.af_base.proofs.Embryos.{waiting-changed, waiting-queued}
@@ -121,9 +121,13 @@ module _ (w : World) (s : ℕ) (g : Socket → Socket) where
 if-there : (P : Socket → Type 0) (w : World) (s : ℕ) (x : Socket) → map.get w.files s ≡ Some (AsSocket x) → IfSome (socket_at w s) P → P x
 if-there P w s x at h = subst (λ o. IfSome (option_and_then socket_of o) P) at h
 
--- A socket that got a name that nobody had.
-pub exact-bound : (w : World) (s : ℕ) (name : List ℕ) (k : Tally) → is_name name ≡ true → named w.files name ≡ None → IsExact w k → IsExact (with_socket w s (with_name name)) k
-exact-bound w s name k fits free h = exact-altered w s (with_name name) (λ x. refl) (λ x. refl) k (λ x at. (whole-bound w s name (named-none w name free) h.whole, within-bound w s name x h.within at fits)) h
+-- A socket that got a name that nobody had in its set.
+pub exact-bound : (w : World) (s : ℕ) (name : List ℕ) (k : Tally) → is_name name ≡ true
+    → IfSome (socket_at w s) (λ x. named w.files (set_of x.kind) name ≡ None) → IsExact w k
+    → IsExact (with_socket w s (with_name name)) k
+exact-bound w s name k fits free h = exact-altered w s (with_name name) (λ x. refl) (λ x. refl) k (λ x at.
+    let none = if-there (λ x. named w.files (set_of x.kind) name ≡ None) w s x at free in
+    (whole-bound w s name x at (named-none w (set_of x.kind) name none) h.whole, within-bound w s name x h.within at fits)) h
 
 -- A socket that was never connected, and listens now.
 pub exact-listening : (w : World) (s b : ℕ) (k : Tally) → IfSome (socket_at w s) (λ x. x.state ≡ state.Idle) → 1 ≤ b → b ≤ MAX_BACKLOG → IsExact w k → IsExact (with_socket w s (listening b)) k

@@ -4,7 +4,7 @@ ghost use Rattle.std.specs.Prelude.{◌≡◌, ◌<◌, ◌≤◌, ℕ, None, So
 ghost use Rattle.std.specs.Prelude.{length, false, is_none, slice_get, true};
 ghost use Rattle.std.specs.FinMap as finmap;
 ghost use Rattle.af_base.specs.World as world;
-ghost use Rattle.af_base.specs.Names.{is_name, named};
+ghost use Rattle.af_base.specs.Names.{is_name, named, set_of};
 ghost use Rattle.af_base.specs.Counts.{waiting};
 ghost use Rattle.af_base.specs.Places.{backlog_at, table_at};
 ghost use Rattle.af_base.specs.Changes.{add_file, dequeued, install, listening, queued, shut};
@@ -68,12 +68,13 @@ impl Store {
         Ok(())
     }
 
-    /// Gives a nameless socket this name, which is valid and free (bind(2)). On an error nothing
-    /// has changed.
+    /// Gives a nameless socket this name, which is valid, and free in the set of the socket's type
+    /// (bind(2)). On an error nothing has changed.
     pub fn bind(&mut self, socket: &FileRef, name: &[u8]) -> Result<(), AllocError>
         requires nameless { IfSome (socket_at self.old.world socket.now) (λ s. s.name ≡ None) }
         requires name { is_name name.now ≡ true }
-        requires free { named self.old.world.files name.now ≡ None }
+        requires free { IfSome (socket_at self.old.world socket.now) (λ s.
+            named self.old.world.files (set_of s.kind) name.now ≡ None) }
         ensures ok { OnOk result (self.new ≡ record self.old {
           world = with_socket self.old.world socket.now (with_name name.now);
         }) }
