@@ -5,7 +5,7 @@ use Rattle.std.specs.Option.{IsSome, option_and_then, option_map_or}
 use Rattle.std.proofs.lemmas.Bool.{false≢true}
 use Rattle.af_base.specs.declared.errno.Errno.TheVariants.{EMFILE}
 use Rattle.af_base.specs.declared.events.Step.TheVariants as step
-use Rattle.af_base.specs.Names.{named}
+use Rattle.af_base.specs.Names.{bound_to, named}
 use Rattle.af_base.specs.Places.{backlog_at, backlog_of}
 use Rattle.af_base.specs.Refusals.{first_fit, is_short, on_accept, on_free, refusal, socket_at}
 use Rattle.af_base.specs.Steps.{first_embryo}
@@ -17,10 +17,11 @@ use Rattle.af_steps.specs.Found.{HasSocket}
 use Rattle.af_steps.proofs.LookupRows.{after-socket, file-is, socket-is}
 
 -- A listener of a name is a socket.
-pub listener-is : (w : World) (name : List ℕ) (f : ℕ) → named w.files name ≡ Some f → is_none (socket_at w f) ≡ false
-listener-is w name f has = by (socket_at w f) (named-some w name f has) where
-  by : (o : Option Socket) → option_and_then (λ s. s.name) o ≡ Some name → is_none o ≡ false
-  by None e = absurd (none_some name e)
+pub listener-is : (w : World) (set : ℕ) (name : List ℕ) (f : ℕ) → named w.files set name ≡ Some f
+    → is_none (socket_at w f) ≡ false
+listener-is w set name f has = by (socket_at w f) (named-some w set name f has) where
+  by : (o : Option Socket) → option_and_then bound_to o ≡ Some (set, name) → is_none o ≡ false
+  by None e = absurd (none_some (set, name) e)
   by (Some s) e = refl
 
 -- A row that is not missing is there.

@@ -54,7 +54,13 @@ impl Engine {
     {
         let (_, file, socket) = socket_on(&self.store, pid, on)?;
         check_bind(&socket, name)?;
-        if self.store.holdings().files().find_name(name).is_some() {
+        if self
+            .store
+            .holdings()
+            .files()
+            .find_name(socket.kind(), name)
+            .is_some()
+        {
             return Err(Errno::EADDRINUSE);
         }
         self.store.bind(&file, name)?;
@@ -151,8 +157,11 @@ fn find_listener(
     let (_, file, client) = socket_on(store, pid, on)?;
     check_client(&client)?;
     let holdings = store.holdings();
-    let listener = holdings.files().find_name(name).ok_or(Errno::ECONNREFUSED)?;
     let kind = client.kind();
+    let listener = holdings
+        .files()
+        .find_name(kind, name)
+        .ok_or(Errno::ECONNREFUSED)?;
     check_listener(&holdings.socket(&listener).unwrap(), kind)?;
     if holdings.files().is_full(1) {
         return Err(Errno::ENFILE);
