@@ -47,17 +47,17 @@ module _ (w : World) (p n : ℕ) (name : List ℕ) (sound : IsSound w) (fits : r
   abbrev c : ℕ
   c = ino_on w p n
 
-  -- The listener's number.
-  abbrev l : ℕ
-  l = ino_named w name
-
   -- The client.
   abbrev client : Socket
   client = socket_on w p n
 
+  -- The listener's number.
+  abbrev l : ℕ
+  l = ino_named w client.kind name
+
   -- The listener.
   abbrev listener : Socket
-  listener = socket_named w name
+  listener = socket_named w client.kind name
 
   -- The embryo.
   abbrev embryo : File
@@ -89,7 +89,7 @@ module _ (w : World) (p n : ℕ) (name : List ℕ) (sound : IsSound w) (fits : r
 
   -- The listener is live.
   listener_there : map.get w.files l ≡ Some (AsSocket listener)
-  listener_there = listener-there w name hears
+  listener_there = listener-there w client.kind name hears
 
   -- The listener is not the client.
   listens : is_listening client.state ≡ false → ¬ (listener ≡ client)
@@ -177,7 +177,7 @@ module _ (old new : World) (p n : ℕ) (name : List ℕ) (sound : IsSound old) (
 pub connect_makes_an_embryo : ConnectMakesAnEmbryo
 connect_makes_an_embryo old new p n name sound h =
     let done = answered old new p n name sound h in
-    subst (λ x. IsEmbryoOf x (ino_named old name) old.next_ino) (sym done.1) (is_embryo old p n name sound done.0)
+    subst (λ x. IsEmbryoOf x (ino_named old (socket_on old p n).kind name) old.next_ino) (sym done.1) (is_embryo old p n name sound done.0)
 
 pub connect_counts : ConnectCounts
 connect_counts old new p n f name sound h =

@@ -11,12 +11,12 @@ use Rattle.af_base.specs.declared.events.Step.TheVariants as step
 use Rattle.af_base.specs.World.{AsSocket, Message, Socket, World, is_live}
 use Rattle.af_base.specs.Places.{attached_in, backlog_of, contents, queue_of}
 use Rattle.af_base.specs.Counts.{charge, count_in, refs, total_of}
-use Rattle.af_base.specs.Names.{named}
+use Rattle.af_base.specs.Names.{named, set_of}
 use Rattle.af_base.specs.Unheld.{IsSettled, Settles}
 use Rattle.af_base.specs.Changes.{listening, with_name, with_socket}
 use Rattle.af_base.specs.Refusals.{ino_on, refusal, socket_on, step_row}
 use Rattle.af_base.specs.Steps.{Outcome, effect}
-use Rattle.af_base.specs.Whole.{IsSound, name_at}
+use Rattle.af_base.specs.Whole.{IsSound, bound_at}
 use Rattle.af_base.proofs.Connections.{whole-bound}
 use Rattle.af_base.proofs.PlaceMoves.{live-changed, there-changed, total-changed}
 use Rattle.af_base.proofs.SocketNames.{name-there, named-none, named-some}
@@ -35,11 +35,11 @@ pub what_embryos_hold_is_reached : WhatEmbryosHoldIsReached
 what_embryos_hold_is_reached w s e f r h g = BySocket e f (embryos_are_reached w s e r h) g
 
 pub names_find_their_sockets : NamesFindTheirSockets
-names_find_their_sockets w f name whole = (named-some w name f, λ has. by has (named w.files name) refl) where
-  by : name_at w f ≡ Some name → (o : Option ℕ) → named w.files name ≡ o
-      → named w.files name ≡ Some f
-  by has None e = absurd (named-none w name e f has)
-  by has (Some g) e = e ∙ ap Some (whole.names g f name (named-some w name g e) has)
+names_find_their_sockets w f set name whole = (named-some w set name f, λ has. by has (named w.files set name) refl) where
+  by : bound_at w f ≡ Some (set, name) → (o : Option ℕ) → named w.files set name ≡ o
+      → named w.files set name ≡ Some f
+  by has None e = absurd (named-none w set name e f has)
+  by has (Some g) e = e ∙ ap Some (whole.names g f (set, name) (named-some w set name g e) has)
 
 -- A world with the same live files, and as many references to each.
 pub settled_alike : (w now : World) → ((f : ℕ) → is_live now f ≡ is_live w f)
@@ -104,18 +104,22 @@ module _ (w : World) (p n : ℕ) (name : List ℕ) (sound : IsSound w) (fits : r
   abbrev named_world : World
   named_world = effect w p (step.Bind n name)
 
+  -- The set in which it has its name.
+  abbrev set : ℕ
+  set = set_of (socket_on w p n).kind
+
   -- The name leads to the socket there.
-  found : named named_world.files name ≡ Some (ino_on w p n)
+  found : named named_world.files set name ≡ Some (ino_on w p n)
   found =
       let row = (none-fits ((not (map.contains_key w.processes p), ESRCH) ∷ step_row w p (step.Bind n name)) fits).rest in
       let there = socket-there w p n row.here row.rest.here in
-      let whole = whole-bound w (ino_on w p n) name (named-none w name (no_one (named w.files name) row.rest.rest.rest.here)) sound.whole in
-      let has : name_at named_world (ino_on w p n) ≡ Some name = name-there named_world (ino_on w p n) (Some (AsSocket (with_name name (socket_on w p n)))) (there-changed w (ino_on w p n) (with_name name) (socket_on w p n) there) in
-      (names_find_their_sockets named_world (ino_on w p n) name whole).1 has
+      let whole = whole-bound w (ino_on w p n) name (socket_on w p n) there (named-none w set name (no_one (named w.files set name) row.rest.rest.rest.here)) sound.whole in
+      let has : bound_at named_world (ino_on w p n) ≡ Some (set, name) = name-there named_world (ino_on w p n) (Some (AsSocket (with_name name (socket_on w p n)))) (there-changed w (ino_on w p n) (with_name name) (socket_on w p n) there) in
+      (names_find_their_sockets named_world (ino_on w p n) set name whole).1 has
 
 pub bound_sockets_are_found : BoundSocketsAreFound
 bound_sockets_are_found old new p n name sound h =
     let now = effect old p (step.Bind n name) in
     let done = outcome_done (refusal old p (step.Bind n name)) false reply.Ok now old reply.Ok new ok_is_done h in
     let same = is_effect now old new (altered_settled old (ino_on old p n) (with_name name) (λ x. refl) (λ x. refl) sound.settled) done.2 in
-    ap (λ w. named w.files name) same ∙ found old p n name sound done.0
+    ap (λ w. named w.files (set_of (socket_on old p n).kind) name) same ∙ found old p n name sound done.0

@@ -115,8 +115,9 @@ module _ (next : ℕ) (P : ℕ → Socket → Type 0) (lasts : IsLasting next P)
       have_kept w (ino_on w p n) (listening b) (λ x. refl) have
   have_effect w p (step.Connect n name) allows low have =
       let c = ino_on w p n in
+      let l = ino_named w (socket_on w p n).kind name in
       let base = add_file w (AsSocket (connected_socket _ c)) in
-      have_kept (with_socket base c (connected w.next_ino)) (ino_named w name) (queued w.next_ino) (λ x. refl) (have_kept base c (connected w.next_ino) (λ x. refl) (have_socket w (connected_socket _ c) refl low have))
+      have_kept (with_socket base c (connected w.next_ino)) l (queued w.next_ino) (λ x. refl) (have_kept base c (connected w.next_ino) (λ x. refl) (have_socket w (connected_socket _ c) refl low have))
   have_effect w p (step.Accept n) allows low have =
       have_kept w (ino_on w p n) dequeued (λ x. refl) have
   have_effect w p (step.Send n bytes attach) allows low have =

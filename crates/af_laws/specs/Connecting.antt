@@ -6,12 +6,12 @@ use Rattle.af_base.specs.declared.events.Step.TheVariants as step
 use Rattle.af_base.specs.World.{World, IsLive}
 use Rattle.af_base.specs.Places.{backlog_at, table_at, Holds, InBacklog}
 use Rattle.af_base.specs.Counts.{charged, inflight, one, refs, total, waiting}
-use Rattle.af_base.specs.Names.{named}
-use Rattle.af_base.specs.Refusals.{ino_named, ino_on}
+use Rattle.af_base.specs.Names.{named, set_of}
+use Rattle.af_base.specs.Refusals.{ino_named, ino_on, socket_on}
 use Rattle.af_base.specs.Reached.{Reached}
 use Rattle.af_base.specs.Steps.{ProcessStep, first_embryo}
 use Rattle.af_base.specs.Unheld.{IsSettled}
-use Rattle.af_base.specs.Whole.{IsSound, IsWhole, name_at}
+use Rattle.af_base.specs.Whole.{IsSound, IsWhole, bound_at}
 
 -- Each count is what it was: of references, of places in flight and in backlogs, and of charges.
 pub record SameCounts (old new : World) : Type 0 where
@@ -28,16 +28,17 @@ pub record IsEmbryoOf (w : World) (s f : ℕ) : Type 0 where
   pub reference : refs w f ≡ 1
   pub grounded : inflight w f ≡ 0
 
--- A name finds the socket that has it, and no other.
+-- A name finds in each set the socket that has it there, and no other.
 abbrev pub NamesFindTheirSockets : Type 0
-NamesFindTheirSockets = (w : World) (f : ℕ) (name : List ℕ) → IsWhole w
-    → (named w.files name ≡ Some f) ↔ (name_at w f ≡ Some name)
+NamesFindTheirSockets = (w : World) (f set : ℕ) (name : List ℕ) → IsWhole w
+    → (named w.files set name ≡ Some f) ↔ (bound_at w f ≡ Some (set, name))
 
--- A socket that was bound is found by the name that it was given (bind(2)).
+-- A socket that was bound is found by the name that it was given, where sockets of its type find
+-- names (bind(2)).
 abbrev pub BoundSocketsAreFound : Type 0
 BoundSocketsAreFound = (old new : World) (p n : ℕ) (name : List ℕ) → IsSound old
     → ProcessStep old p (step.Bind n name) reply.Ok new
-    → named new.files name ≡ Some (ino_on old p n)
+    → named new.files (set_of (socket_on old p n).kind) name ≡ Some (ino_on old p n)
 
 -- A bind changes no count, whatever the answer: a name holds nothing (bind(2)).
 abbrev pub BindChangesNoCount : Type 0
@@ -54,7 +55,7 @@ ListenChangesNoCount = (old new : World) (p n b : ℕ) (r : Reply) → IsSettled
 abbrev pub ConnectMakesAnEmbryo : Type 0
 ConnectMakesAnEmbryo = (old new : World) (p n : ℕ) (name : List ℕ) → IsSound old
     → ProcessStep old p (step.Connect n name) reply.Ok new
-    → IsEmbryoOf new (ino_named old name) old.next_ino
+    → IsEmbryoOf new (ino_named old (socket_on old p n).kind name) old.next_ino
 
 -- A connect is one reference more to the embryo, and none to any other file; nothing more is in
 -- flight.
