@@ -108,8 +108,9 @@ grows-effect w p (step.Bind n name) e = grows-socket w (ino_on w p n) (with_name
 grows-effect w p (step.Listen n b) e = grows-socket w (ino_on w p n) (listening b)
 grows-effect w p (step.Connect n name) e =
     let c = ino_on w p n in
-    let l = ino_named w name in
-    let x = connected_socket (socket_named w name).kind c in
+    let kind = (socket_on w p n).kind in
+    let l = ino_named w kind name in
+    let x = connected_socket (socket_named w kind name).kind c in
     let made = add_file w (AsSocket x) in
     let joined = with_socket made c (connected w.next_ino) in
     grows-join w joined (with_socket joined l (queued w.next_ino)) (grows-join w made joined (grows-added w x) (grows-socket made c (connected w.next_ino))) (grows-socket joined l (queued w.next_ino))
