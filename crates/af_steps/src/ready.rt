@@ -1,5 +1,5 @@
 //! The readiness of files (poll(2)).
-ghost use Rattle.std.specs.Prelude.{◌≡◌, ◌++◌, None, OnOk, Some, IfErr, IfOk};
+ghost use Rattle.std.specs.Prelude.{◌≡◌, ◌++◌, None, OnOk, Some, IfErr, IfOk, false, true};
 ghost use Rattle.std.specs.FinMap as map;
 ghost use Rattle.af_base.specs.Places.{queue_at, table_at};
 ghost use Rattle.af_base.specs.Ready.{is_cut_off, reads, ready, writes};
@@ -82,13 +82,21 @@ pub(crate) fn check_target(store: &Store, file: &FileRef) -> Result<(), Errno>
     let Some(socket) = store.holdings().socket(file) else {
         return Ok(());
     };
-    if socket.ends().no_input {
-        return Err(Errno::EPIPE);
-    }
-    if socket.queue().len() >= MAX_MESSAGES {
-        return Err(Errno::EAGAIN);
+    let is_deaf = socket.ends().no_input;
+    if is_deaf || socket.queue().len() >= MAX_MESSAGES {
+        return Err(why_not(is_deaf));
     }
     Ok(())
+}
+
+/// Returns why a socket that takes no message does not. Stands apart, since few sends need it.
+#[cold]
+#[inline(never)]
+fn why_not(is_deaf: bool) -> Errno
+    ensures deaf { is_deaf ≡ true → result ≡ Errno.EPIPE }
+    ensures full { is_deaf ≡ false → result ≡ Errno.EAGAIN }
+{
+    if is_deaf { Errno::EPIPE } else { Errno::EAGAIN }
 }
 
 /// Returns whether the peer of the socket was freed, or both its ends are closed.

@@ -1,10 +1,13 @@
 -- The types that the calls take and answer, and their variants.
 pub use Rattle.af_base.specs.declared.errno.Errno.{Errno}
 pub use Rattle.af_base.specs.declared.errno.Errno.TheVariants as errno
+pub use Rattle.af_base.specs.declared.events.Ends.{Ends}
 pub use Rattle.af_base.specs.declared.events.Event.{Event}
 pub use Rattle.af_base.specs.declared.events.Event.TheVariants as event
 pub use Rattle.af_base.specs.declared.events.Reply.{Reply}
 pub use Rattle.af_base.specs.declared.events.Reply.TheVariants as reply
+pub use Rattle.af_base.specs.declared.events.Shutdown.{Shutdown}
+pub use Rattle.af_base.specs.declared.events.Shutdown.TheVariants as how
 pub use Rattle.af_base.specs.declared.events.SockType.{SockType}
 pub use Rattle.af_base.specs.declared.events.SockType.TheVariants as kind
 pub use Rattle.af_base.specs.declared.events.State.{State}

@@ -35,7 +35,7 @@ mod owned;
 pub mod report;
 
 pub use af_base::errno::Errno;
-pub use af_base::events::{Event, Reply, SockType, State, Step};
+pub use af_base::events::{Ends, Event, Reply, Shutdown, SockType, State, Step};
 pub use af_base::ids::{Fd, FileRef, Ino, Pid, Uid};
 pub use af_base::items::{Bytes, Fds, Items};
 pub use af_base::limits;

@@ -21,7 +21,7 @@ returns-clause-done c =
     let input = c.closes_input-input.ensures in
     let output = c.closes_output-output.ensures in
     let own : c.shut.new.self ≡ record s { world = with_socket s.world c.in_ok-file.file (shut (closes_input how) (closes_output how)) } =
-        c.shut.ensures ∙ (λ i. record s { world = with_socket s.world c.in_ok-file.file (shut (input i) (output i)) }) in
+    c.shut.ensures ∙ (λ i. record s { world = with_socket s.world c.in_ok-file.file (shut (input i) (output i)) }) in
     let step = step.Shutdown c.args.on how in
     let leads : (v : World) → effect s.world c.args.pid step ≡ v → record s { world = v } ≡ record s { world = effect s.world c.args.pid step } = λ v is. ap (λ v. record s { world = v }) (sym is) in
     let placed : c.match-peer.self-inside.store ≡ record s { world = effect s.world c.args.pid step } = elim c.match-peer.branch [
