@@ -1,8 +1,9 @@
 -- In an old world each definition reads as it did.
-use Rattle.std.proofs.Common.{◌≡◌, ℕ, false, not, ◌&&◌, ◌||◌, List, [], ◌∷◌, ◌++◌, length, refl, sym, ap, ◌∙◌, subst, nat_eq}
+use Rattle.std.proofs.Common.{◌≡◌, ℕ, Bool, false, not, ◌&&◌, ◌||◌, List, [], ◌∷◌, ◌++◌, length, refl, sym, ap, ◌∙◌, subst, nat_eq}
 use Rattle.std.specs.Prelude.{Option, Some, None, is_none, nat_le, option_map, unwrap_or}
 use Rattle.std.specs.Option.{option_and_then, option_map_or}
-use Rattle.std.specs.List.{All}
+use Rattle.std.specs.List.{All, find}
+use Rattle.std.specs.Str.{bytes_eq}
 use Rattle.std.specs.FinMap as map
 use Rattle.std.proofs.Math.Bool.{or-false}
 use Rattle.af_base.specs.declared.errno.Errno.TheVariants.{EAGAIN, ECONNREFUSED, EINVAL, ENOTCONN, EPIPE, EPROTOTYPE}
@@ -10,20 +11,21 @@ use Rattle.af_base.specs.declared.events.Event.{Event}
 use Rattle.af_base.specs.declared.events.Event.TheVariants as event
 use Rattle.af_base.specs.declared.events.Reply.{Reply}
 use Rattle.af_base.specs.declared.events.SockType.{SockType}
+use Rattle.af_base.specs.declared.events.SockType.TheVariants.{Seqpacket, Stream}
 use Rattle.af_base.specs.declared.events.Step.{Step}
 use Rattle.af_base.specs.declared.events.Step.TheVariants as step
 use Rattle.af_base.specs.declared.limits.TheConstants.{MAX_BYTES}
 use Rattle.af_base.specs.World.{AsSocket, File, Map, Plain, Socket, World, open_ends}
 use Rattle.af_base.specs.Counts.{charged, total}
-use Rattle.af_base.specs.Names.{is_between, named}
+use Rattle.af_base.specs.Names.{has_name, is_between, named, set_of}
 use Rattle.af_base.specs.Pass.{Machine}
 use Rattle.af_base.specs.Places.{queue_at, queue_in, table_at}
 use Rattle.af_base.specs.Ready.{found, is_cut_off, ready_in, ready_of}
-use Rattle.af_base.specs.Refusals.{at_socket, first_fit, is_connected, is_deaf_in, is_hung_up, is_listening, is_same_type, no_socket, on_accept, on_charge, on_client, on_files, on_input, on_listener, on_parts, on_peer, on_process, on_receive, on_room, peer_of, process_at, refusal, room_of, socket_at, socket_named, socket_of, socket_on}
+use Rattle.af_base.specs.Refusals.{at_socket, first_fit, is_connected, is_deaf_in, ino_on, is_hung_up, is_listening, is_same_type, no_socket, on_accept, on_bind, on_charge, on_client, on_files, on_input, on_listener, on_name, on_parts, on_peer, on_process, on_receive, on_room, peer_of, process_at, refusal, room_of, socket_at, socket_of, socket_on}
 use Rattle.af_base.specs.Run.{Run, RunEntry, Step as MachineStep}
-use Rattle.af_base.specs.Steps.{Outcome, answer, effect, needs_no_memory}
+use Rattle.af_base.specs.Steps.{Outcome, answer, effect, needs_no_memory, with_embryo}
 use Rattle.af_laws.proofs.OldWorlds.{effect_old, event_old, first_old}
-use Rattle.af_laws.specs.Keeping.{AreOld, IsOldEvent, IsOldMachine, IsOldStep, OldRunsAreRunsThen, OldWorldsReadAsThen, RunThen, StepThen, found_then, on_listener_then, on_peer_then, on_receive_then, ready_in_then, ready_of_then, refusal_then}
+use Rattle.af_laws.specs.Keeping.{AreOld, IsOldEvent, IsOldMachine, IsOldStep, OldRunsAreRunsThen, OldWorldsReadAsThen, RunThen, StepThen, effect_then, found_then, has_name_then, named_then, on_listener_then, on_peer_then, on_receive_then, ready_in_then, ready_of_then, refusal_then, socket_named_then}
 
 -- A socket whose ends are open.
 module _ (s : Socket) (opened : s.ends ≡ open_ends) where
@@ -95,15 +97,34 @@ module _ (w : World) (old : AreOld w.files) where
   opened_on : (p n : ℕ) → (socket_on w p n).ends ≡ open_ends
   opened_on p n = opened_at (table_at w p n)
 
+  -- A name finds whom it found, since all types of sockets have their names in one set.
+  named_same : (kind : SockType) (name : List ℕ)
+      → named w.files (set_of kind) name ≡ named_then w.files name
+  named_same kind name = λ i. option_map (λ e. e.0) (find (λ e. each e.1 i) (map.entries w.files)) where
+    one : (a b : SockType) (has : Bool) → (nat_eq (set_of a) (set_of b) && has) ≡ has
+    one Stream Stream has = refl
+    one Stream Seqpacket has = refl
+    one Seqpacket Stream has = refl
+    one Seqpacket Seqpacket has = refl
+
+    each : (x : File) → has_name (set_of kind) name x ≡ has_name_then name x
+    each Plain = refl
+    each (AsSocket s) = one kind s.kind (option_map_or (bytes_eq name) s.name false)
+
   -- A receive is refused as it was.
   receive_refused : (p n max_bytes max_fds : ℕ) → refusal w p (step.Recv n max_bytes max_fds) ≡ refusal_then w p (step.Recv n max_bytes max_fds)
   receive_refused p n max_bytes max_fds = λ i. first_fit (on_process (map.get w.processes p) ++ at_socket w p n ++ receive_same (socket_on w p n) (opened_on p n) max_bytes i)
 
   -- So is each old step.
   refused_same : (p : ℕ) (s : Step) → IsOldStep s → refusal w p s ≡ refusal_then w p s
+  refused_same p (step.Bind n name) is =
+      let s = socket_on w p n in
+      λ i. first_fit (on_process (map.get w.processes p) ++ at_socket w p n ++ on_bind s name ++ on_name (named_same s.kind name i))
   refused_same p (step.Connect n name) is =
       let s = socket_on w p n in
-      λ i. first_fit (on_process (map.get w.processes p) ++ at_socket w p n ++ on_client s.state ++ listener_same (socket_named w name) (opened_at (named w.files name)) s.kind i ++ on_files w 1)
+      let listener = listener_same (socket_named_then w name) (opened_at (named_then w.files name)) s.kind in
+      (λ i. first_fit (on_process (map.get w.processes p) ++ at_socket w p n ++ on_client s.state ++ on_listener (unwrap_or (option_and_then (socket_at w) (named_same s.kind name i)) no_socket) s.kind ++ on_files w 1))
+      ∙ (λ i. first_fit (on_process (map.get w.processes p) ++ at_socket w p n ++ on_client s.state ++ listener i ++ on_files w 1))
   refused_same p (step.Send n bytes attach) is =
       let s = socket_on w p n in
       let user = process_at w p in
@@ -112,6 +133,13 @@ module _ (w : World) (old : AreOld w.files) where
   refused_same p (step.Recv n max_bytes max_fds) is = receive_refused p n max_bytes max_fds
   refused_same p (step.Peek n max_bytes max_fds) is = receive_refused p n max_bytes max_fds
   refused_same p s is = refl
+
+  -- An old step changes what it changed.
+  changed_same : (p : ℕ) (s : Step) → IsOldStep s → effect w p s ≡ effect_then w p s
+  changed_same p (step.Connect n name) is = λ i.
+      let found = named_same (socket_on w p n).kind name i in
+      with_embryo w (ino_on w p n) (unwrap_or found 0) (unwrap_or (option_and_then (socket_at w) found) no_socket).kind
+  changed_same p s is = refl
 
   -- Steps find what they found.
   found_same : (p n : ℕ) → found w p n ≡ found_then w p n
@@ -123,7 +151,9 @@ module _ (w : World) (old : AreOld w.files) where
 
 pub old_worlds_read_as_then : OldWorldsReadAsThen
 old_worlds_read_as_then w old = record {
+  names = named_same w old;
   refusals = refused_same w old;
+  changes = changed_same w old;
   effects = λ p s is. effect_old w p s is old;
   readiness = ready_same w.files old;
   findings = found_same w old;
@@ -132,7 +162,7 @@ old_worlds_read_as_then w old = record {
 -- An old event leads by the definitions as they were where it leads.
 module _ (old new : Machine) (r : Reply) (is : IsOldMachine old) where
   leads_then : (e : Event) → IsOldEvent e → MachineStep old e r new → StepThen old e r new
-  leads_then (event.Proc p s) was h = (subst (λ o. Outcome o (needs_no_memory s) (answer old.world p s) (effect old.world p s) old.world r new.world) (refused_same old.world is.world p s was) h.0, h.1)
+  leads_then (event.Proc p s) was h = (subst (λ (w : World). Outcome (refusal_then old.world p s) (needs_no_memory s) (answer old.world p s) w old.world r new.world) (changed_same old.world is.world p s was) (subst (λ o. Outcome o (needs_no_memory s) (answer old.world p s) (effect old.world p s) old.world r new.world) (refused_same old.world is.world p s was) h.0), h.1)
   leads_then (event.Spawn uid nofile privileged) was h = h
   leads_then event.Begin was h = h
   leads_then (event.Slice b) was h = h
@@ -140,7 +170,7 @@ module _ (old new : Machine) (r : Reply) (is : IsOldMachine old) where
 
   -- And it leads there where it led.
   leads_now : (e : Event) → IsOldEvent e → StepThen old e r new → MachineStep old e r new
-  leads_now (event.Proc p s) was h = (subst (λ o. Outcome o (needs_no_memory s) (answer old.world p s) (effect old.world p s) old.world r new.world) (sym (refused_same old.world is.world p s was)) h.0, h.1)
+  leads_now (event.Proc p s) was h = (subst (λ o. Outcome o (needs_no_memory s) (answer old.world p s) (effect old.world p s) old.world r new.world) (sym (refused_same old.world is.world p s was)) (subst (λ (w : World). Outcome (refusal_then old.world p s) (needs_no_memory s) (answer old.world p s) w old.world r new.world) (sym (changed_same old.world is.world p s was)) h.0), h.1)
   leads_now (event.Spawn uid nofile privileged) was h = h
   leads_now event.Begin was h = h
   leads_now (event.Slice b) was h = h

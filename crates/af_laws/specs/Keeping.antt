@@ -2,8 +2,10 @@
 -- definition reads in them as it did before this project added events of its own. The table of
 -- events in docs/DEFINITIONS.md marks these. Definitions here are this project's own; one whose name
 -- ends in `_then` is what the definition was.
-use Rattle.std.specs.Prelude.{◌≡◌, ◌↔◌, ◌||◌, ◌++◌, ℕ, Bool, true, false, not, ◌&&◌, List, [], ◌∷◌, Option, Some, is_none, length, nat_eq, nat_le, option_map}
-use Rattle.std.specs.List.{All}
+use Rattle.std.specs.Prelude.{◌≡◌, ◌↔◌, ◌||◌, ◌++◌, ℕ, Bool, true, false, not, ◌&&◌, List, [], ◌∷◌, Option, Some, is_none, length, nat_eq, nat_le, option_map, unwrap_or}
+use Rattle.std.specs.List.{All, find}
+use Rattle.std.specs.Option.{option_and_then, option_map_or}
+use Rattle.std.specs.Str.{bytes_eq}
 use Rattle.std.specs.FinMap as map
 use Rattle.af_base.specs.declared.errno.Errno.{Errno}
 use Rattle.af_base.specs.declared.errno.Errno.TheVariants.{EAGAIN, ECONNREFUSED, EINVAL, ENOTCONN, EPIPE, EPROTOTYPE}
@@ -17,13 +19,13 @@ use Rattle.af_base.specs.declared.limits.TheConstants.{MAX_BYTES}
 use Rattle.af_base.specs.declared.ready.Ready.{Ready}
 use Rattle.af_base.specs.World.{AsSocket, File, Map, Message, Plain, Socket, World, open_ends}
 use Rattle.af_base.specs.Counts.{charged, total}
-use Rattle.af_base.specs.Names.{is_between}
+use Rattle.af_base.specs.Names.{is_between, named, set_of}
 use Rattle.af_base.specs.Pass.{Machine, SamePass}
 use Rattle.af_base.specs.Places.{queue_at, queue_in, table_at}
 use Rattle.af_base.specs.Ready.{found, ready_in}
-use Rattle.af_base.specs.Refusals.{RefusalRow, at_socket, first_fit, is_connected, is_hung_up, is_listening, is_same_type, on_accept, on_charge, on_client, on_files, on_parts, on_process, on_room, peer_of, process_at, refusal, room_of, socket_named, socket_on, step_row}
+use Rattle.af_base.specs.Refusals.{RefusalRow, at_socket, first_fit, is_connected, is_hung_up, ino_on, is_listening, is_same_type, no_socket, on_accept, on_bind, on_charge, on_client, on_files, on_name, on_parts, on_process, on_room, peer_of, process_at, refusal, room_of, socket_at, socket_on, step_row}
 use Rattle.af_base.specs.Run.{Run, RunEntry, Step as MachineStep, fresh}
-use Rattle.af_base.specs.Steps.{Outcome, answer, effect, needs_no_memory}
+use Rattle.af_base.specs.Steps.{Outcome, answer, effect, needs_no_memory, with_embryo}
 
 -- ---- Old events and old worlds.
 
@@ -108,17 +110,38 @@ on_receive_then s max_bytes =
     ∷ (nat_eq (length s.queue) 0 && not (is_hung_up s.state), EAGAIN)
     ∷ []
 
+-- Whether the file is a socket of this name.
+abbrev pub has_name_then : List ℕ → File → Bool
+has_name_then name Plain = false
+has_name_then name (AsSocket s) = option_map_or (bytes_eq name) s.name false
+
+-- The file of these that has the name, if there is one (unix(7), abstract).
+abbrev pub named_then : Map File → List ℕ → Option ℕ
+named_then files name =
+    option_map (λ e. e.0) (find (λ e. has_name_then name e.1) (map.entries files))
+
+-- The inode number of the live socket of this name, or 0, which is none.
+abbrev pub ino_named_then : World → List ℕ → ℕ
+ino_named_then w name = unwrap_or (named_then w.files name) 0
+
+-- The live socket of this name.
+abbrev pub socket_named_then : World → List ℕ → Socket
+socket_named_then w name =
+    unwrap_or (option_and_then (socket_at w) (named_then w.files name)) no_socket
+
 -- Why a receive of at most k bytes is refused, also as a peek (recvmsg(2), MSG_PEEK).
 abbrev pub recv_row_then : World → ℕ → ℕ → ℕ → RefusalRow
 recv_row_then w p n max_bytes = at_socket w p n ++ on_receive_then (socket_on w p n) max_bytes
 
 -- Why a step of a running process is refused, but for out of memory.
 abbrev pub step_row_then : World → ℕ → Step → RefusalRow
+step_row_then w p (step.Bind n name) = at_socket w p n ++ on_bind (socket_on w p n) name
+    ++ on_name (named_then w.files name)
 step_row_then w p (step.Connect n name) =
     let s = socket_on w p n in
     at_socket w p n
     ++ on_client s.state
-    ++ on_listener_then (socket_named w name) s.kind
+    ++ on_listener_then (socket_named_then w name) s.kind
     ++ on_files w 1
 step_row_then w p (step.Send n bytes attach) =
     let q = process_at w p in
@@ -166,11 +189,17 @@ found_then w p n = record {
   hung_up = is_hung_up (socket_on w p n).state;
 }
 
+-- The world after the places were changed, which is then settled, where nothing refuses the step.
+abbrev pub effect_then : World → ℕ → Step → World
+effect_then w p (step.Connect n name) =
+    with_embryo w (ino_on w p n) (ino_named_then w name) (socket_named_then w name).kind
+effect_then w p s = effect w p s
+
 -- From the world `old` process p may get this reply to the step, and then the world is `new`.
--- Which steps need no memory, what they answer and what they change is defined as it was.
+-- Which steps need no memory and what they answer is defined as it was.
 abbrev pub ProcessStepThen : World → ℕ → Step → Reply → World → Type 0
 ProcessStepThen old p s r new = Outcome (refusal_then old p s) (needs_no_memory s) (answer old p s)
-    (effect old p s) old r new
+    (effect_then old p s) old r new
 
 -- One step: from `old` this reply to the event, and then the machine is `new`.
 abbrev pub StepThen : Machine → Event → Reply → Machine → Type 0
@@ -184,10 +213,14 @@ RunThen old (e ∷ es) new = (mid : Machine) × StepThen old e.0 e.1 mid × RunT
 
 -- ---- What they say is the same.
 
--- Each definition that has a new part reads in this world as it did: refusals of old steps, the
--- readiness of files, and what steps find of it. The effect of an old step is old again.
+-- Each definition that has a new part reads in this world as it did: whom a name finds, refusals
+-- and effects of old steps, the readiness of files, and what steps find of it. The effect of an old
+-- step is old again.
 pub record ReadsAsThen (w : World) : Type 0 where
   pub refusals : (p : ℕ) (s : Step) → IsOldStep s → refusal w p s ≡ refusal_then w p s
+  pub names : (kind : SockType) (name : List ℕ)
+      → named w.files (set_of kind) name ≡ named_then w.files name
+  pub changes : (p : ℕ) (s : Step) → IsOldStep s → effect w p s ≡ effect_then w p s
   pub effects : (p : ℕ) (s : Step) → IsOldStep s → IsOldWorld (effect w p s)
   pub readiness : (f : ℕ) → ready_in w.files f ≡ ready_in_then w.files f
   pub findings : (p n : ℕ) → found w p n ≡ found_then w p n
