@@ -1,5 +1,6 @@
 pub mod Outcomes
 pub mod FoldedReplies
+pub mod CalledSteps
 pub mod LookupRows
 pub mod Numbers
 pub mod WaitingMessages

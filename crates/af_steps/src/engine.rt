@@ -5,7 +5,7 @@ ghost use Rattle.af_base.specs.Run.{fresh, Run, Step};
 ghost use Rattle.af_steps.specs.Outcome.{Answers};
 ghost use Rattle.af_steps.specs.Rooms.{EventSucceeds, Succeeds};
 
-use af_base::errno::Errno;
+use crate::calls::{self, Answer, Call};
 use af_base::events;
 use af_base::events::{Event, Reply};
 use af_base::ids::Pid;
@@ -91,11 +91,11 @@ impl Engine {
                 uid,
                 nofile,
                 privileged,
-            } => self.spawn_reply(*uid, *nofile, *privileged),
+            } => self.reply_to(calls::Spawn(*uid, *nofile, *privileged)),
             Event::Proc(pid, step) => self.step_of(*pid, step),
-            Event::Begin => reply_of(self.begin().map(Reply::Started)),
-            Event::Slice(budget) => reply_of(self.slice(*budget)),
-            Event::Pass => self.pass_reply(),
+            Event::Begin => self.reply_to(calls::Begin),
+            Event::Slice(budget) => self.reply_to(calls::Slice(*budget)),
+            Event::Pass => self.reply_to(calls::Pass),
         }
     }
 
@@ -118,33 +118,41 @@ impl Engine {
         ensures succeeds { Succeeds self.old.world pid step.now result }
     {
         match step {
-            events::Step::Open => self.open_reply(pid),
-            events::Step::Dup(from) => self.dup_reply(pid, *from),
-            events::Step::Dup2(from, to) => self.dup2_reply(pid, *from, *to),
-            events::Step::Close(fd) => reply_of(self.close(pid, *fd)),
-            events::Step::Fork => self.fork_reply(pid),
-            events::Step::Exit => reply_of(self.exit(pid)),
-            events::Step::Pair(kind) => self.pair_reply(pid, *kind),
-            events::Step::Socket(kind) => self.socket_reply(pid, *kind),
-            events::Step::Bind { on, name } => reply_of(self.bind(pid, *on, name.as_slice())),
-            events::Step::Listen { on, backlog } => reply_of(self.listen(pid, *on, *backlog)),
-            events::Step::Connect { on, name } => reply_of(self.connect(pid, *on, name.as_slice())),
-            events::Step::Accept(on) => self.accept_reply(pid, *on),
+            events::Step::Open => self.reply_to(calls::Open(pid)),
+            events::Step::Dup(from) => self.reply_to(calls::Dup(pid, *from)),
+            events::Step::Dup2(from, to) => self.reply_to(calls::Dup2(pid, *from, *to)),
+            events::Step::Close(fd) => self.reply_to(calls::Close(pid, *fd)),
+            events::Step::Fork => self.reply_to(calls::Fork(pid)),
+            events::Step::Exit => self.reply_to(calls::Exit(pid)),
+            events::Step::Pair(kind) => self.reply_to(calls::Pair(pid, *kind)),
+            events::Step::Socket(kind) => self.reply_to(calls::Socket(pid, *kind)),
+            events::Step::Bind { on, name } => {
+                self.reply_to(calls::Bind(pid, *on, name.as_slice()))
+            }
+            events::Step::Listen { on, backlog } => {
+                self.reply_to(calls::Listen(pid, *on, *backlog))
+            }
+            events::Step::Connect { on, name } => {
+                self.reply_to(calls::Connect(pid, *on, name.as_slice()))
+            }
+            events::Step::Accept(on) => self.reply_to(calls::Accept(pid, *on)),
             events::Step::Send { on, bytes, attach } => {
-                self.send_reply(pid, *on, bytes.as_slice(), attach.as_slice())
+                self.reply_to(calls::Send(pid, *on, bytes.as_slice(), attach.as_slice()))
             }
             events::Step::Recv {
                 on,
                 max_bytes,
                 max_fds,
-            } => self.recv_reply(pid, *on, *max_bytes, *max_fds),
+            } => self.reply_to(calls::Recv(pid, *on, *max_bytes, *max_fds)),
             events::Step::Peek {
                 on,
                 max_bytes,
                 max_fds,
-            } => self.peek_reply(pid, *on, *max_bytes, *max_fds),
-            events::Step::Limit(nofile) => reply_of(self.limit(pid, *nofile)),
-            events::Step::Shutdown { on, how } => reply_of(self.shutdown(pid, *on, *how)),
+            } => self.reply_to(calls::Peek(pid, *on, *max_bytes, *max_fds)),
+            events::Step::Limit(nofile) => self.reply_to(calls::Limit(pid, *nofile)),
+            events::Step::Shutdown { on, how } => {
+                self.reply_to(calls::Shutdown(pid, *on, *how))
+            }
         }
     }
 
@@ -156,10 +164,21 @@ impl Engine {
     {
         match step {
             events::Step::Send { on, bytes, attach } => {
-                let sent = self.send_owned(pid, on, bytes, attach.as_slice());
-                reply_of(sent.map(Reply::Sent))
+                self.reply_to(calls::SendOwned(pid, on, bytes, attach.as_slice()))
             }
             other => self.step_of(pid, &other),
+        }
+    }
+
+    /// Does the event of this call, and returns its reply.
+    #[inline(always)]
+    pub fn reply_to<C: Call>(&mut self, call: C) -> Reply
+        ensures does { Step self.old (C.event call) result self.new }
+        ensures succeeds { EventSucceeds self.old.world (C.event call) result }
+    {
+        match call.call(self) {
+            Ok(answer) => answer.reply(),
+            Err(error) => Reply::Refused(error),
         }
     }
 
@@ -193,17 +212,5 @@ impl Engine {
     {
         // The invariants of the engine and of its store say it.
         self.store.lemma_pass();
-    }
-}
-
-/// Returns the reply of a call's answer, or its error as a refusal.
-#[inline(always)]
-pub(crate) fn reply_of<T: Into<Reply>>(outcome: Result<T, Errno>) -> Reply
-    ensures ok { IfOk outcome (λ answer. T.converts answer result) }
-    ensures err { IfErr outcome (λ error. result ≡ Reply.Refused error) }
-{
-    match outcome {
-        Ok(answer) => answer.into(),
-        Err(error) => Reply::Refused(error),
     }
 }

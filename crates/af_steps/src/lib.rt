@@ -5,18 +5,19 @@
 //! file is unreferenced, a release is one look.
 #![tactic(auto)]
 
+pub mod calls;
 mod engine;
 mod lookups;
 mod messages;
 mod passes;
 mod ready;
-mod replies;
 mod sockets;
 mod tables;
 mod told;
 mod views;
 
 pub use af_desc::ToldList;
+pub use calls::{Answer, Call};
 pub use engine::{Engine, RunStopped};
 pub use messages::Received;
 pub use passes::{Finished, Progress};

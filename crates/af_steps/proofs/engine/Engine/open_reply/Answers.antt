@@ -1,8 +1,0 @@
-use Rattle.std.proofs.Common.{refl}
-use Rattle.af_base.specs.declared.events.Reply.TheVariants as reply
-use Rattle.af_base.specs.declared.events.Step.TheVariants as step
-use Rattle.af_steps.proofs.FoldedReplies.{answers_step}
-use Rattle.af_steps.proofs.engine.Engine.open_reply.Goals as goal
-
-pub returns : goal.returns
-returns c = answers_step _ _ step.Open _ _ refl c.open.result reply.Fd _ c.open.ensures.done c.open.ensures.refused c.reply_of.ensures.ok c.reply_of.ensures.err
