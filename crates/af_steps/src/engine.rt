@@ -150,9 +150,7 @@ impl Engine {
                 max_fds,
             } => self.reply_to(calls::Peek(pid, *on, *max_bytes, *max_fds)),
             events::Step::Limit(nofile) => self.reply_to(calls::Limit(pid, *nofile)),
-            events::Step::Shutdown { on, how } => {
-                self.reply_to(calls::Shutdown(pid, *on, *how))
-            }
+            events::Step::Shutdown { on, how } => { self.reply_to(calls::Shutdown(pid, *on, *how)) }
         }
     }
 

@@ -1,5 +1,5 @@
 -- A send of more numbers than a message may have is refused alike, whichever they are.
-use Rattle.std.proofs.Common.{◌≡◌, ◌<◌, ℕ, ◌||◌, Bool, true, false, List, ◌∷◌, length, take, drop, take_all, length-take-le, nat_eq, nat_lt, arith, refl, ap, sym, subst, lt-ltb, ltb-false, ltb-true}
+use Rattle.std.proofs.Common.{◌≡◌, ◌<◌, ℕ, ℤ, ◌||◌, inl, inr, Bool, true, false, List, ◌∷◌, length, take, drop, take_all, length-take-le, nat_eq, nat_lt, arith, refl, ap, sym, subst, lt-ltb, ltb-false, ltb-true}
 use Rattle.std.specs.Prelude.{Option, Some, not, is_none, if◌then◌else◌}
 use Rattle.std.specs.FinMap as map
 use Rattle.af_base.specs.World.{World}
@@ -14,6 +14,7 @@ use Rattle.af_base.specs.declared.events.Event.TheVariants as event
 use Rattle.af_base.specs.declared.events.Reply.{Reply}
 use Rattle.af_base.specs.declared.events.Step.TheVariants as step
 use Rattle.af_base.specs.declared.limits.TheConstants.{SCM_MAX_FD}
+use Rattle.scm_c.specs.Calls.{DoesEvent}
 
 -- The error of the first of these tests that fits, where the fourth does if none before it.
 abbrev first_of : Bool → Bool → Bool → Errno
@@ -47,7 +48,7 @@ module _ (w : World) (p n : ℕ) (bytes : List ℕ) where
   too-many attach many = fourth _ _ _ _ (drop 3 (step_row w p (step.Send n bytes attach))) (either (nat_eq (length bytes) 0) _ (lt-ltb SCM_MAX_FD (length attach) many))
 
 -- So a send of the first 254 numbers is a send of all.
-pub first-suffice : (old new : Machine) (p n : ℕ) (bytes attach : List ℕ) (r : Reply) → run.Step old (event.Proc p (step.Send n bytes (take 254 attach))) r new → run.Step old (event.Proc p (step.Send n bytes attach)) r new
+first-suffice : (old new : Machine) (p n : ℕ) (bytes attach : List ℕ) (r : Reply) → run.Step old (event.Proc p (step.Send n bytes (take 254 attach))) r new → run.Step old (event.Proc p (step.Send n bytes attach)) r new
 first-suffice old new p n bytes attach r h = by (nat_lt 254 (length attach)) refl where
   by : (b : Bool) → nat_lt 254 (length attach) ≡ b → run.Step old (event.Proc p (step.Send n bytes attach)) r new
   by false few = subst (λ xs. run.Step old (event.Proc p (step.Send n bytes xs)) r new) (take_all 254 attach (ltb-false 254 (length attach) few)) h
@@ -59,3 +60,10 @@ first-suffice old new p n bytes attach r h = by (nat_lt 254 (length attach)) ref
       let s = step.Send n bytes (take 254 attach) in
       let t = step.Send n bytes attach in
       (alike _ _ (error w p n bytes) (answer w p s) (answer w p t) (effect w p s) (effect w p t) w new.world r (too-many w p n bytes (take 254 attach) first) (too-many w p n bytes attach all) h.0, h.1)
+
+-- The same of a call that does it.
+pub sends-all : (shown now : Option Machine) (p n : ℕ) (bytes attach : List ℕ) (code : ℤ) → DoesEvent shown (event.Proc p (step.Send n bytes (take 254 attach))) code now → DoesEvent shown (event.Proc p (step.Send n bytes attach)) code now
+sends-all shown now p n bytes attach code h = elim h [
+  | inl d ↦ inl (d.0, (d.1.0, d.1.1, d.1.2, d.1.3, (λ sure. absurd sure.room), first-suffice d.1.0 d.1.1 p n bytes attach d.0 d.1.5), d.2)
+  | inr lacks ↦ inr lacks
+]

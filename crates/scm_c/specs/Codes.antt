@@ -1,5 +1,5 @@
 -- The numbers that cross to C.
-use Rattle.std.specs.Prelude.{ℕ, ℤ, pos, ◌+◌, ◌*◌, ◌-ℤ◌, length, Option, Some, None, Result, Ok, Err, nat_eq, if◌then◌else◌}
+use Rattle.std.specs.Prelude.{ℕ, ℤ, pos, ◌+◌, ◌*◌, ◌-ℤ◌, length, Option, Some, None, nat_eq, if◌then◌else◌}
 use Rattle.af_base.specs.Errno.{number_of}
 use Rattle.af_base.specs.declared.errno.Errno.{Errno}
 use Rattle.af_base.specs.declared.events.Reply.{Reply}
@@ -34,11 +34,6 @@ code_of (reply.Started n) = pos 0
 code_of reply.Working = pos 1
 code_of (reply.Done n k) = pos 0
 code_of (reply.Refused e) = error_code e
-
--- The outcome of a call that has no number to report, as the number that it answers.
-abbrev pub outcome_code : Result (Unit {0}) Errno → ℤ
-outcome_code (Ok _) = pos 0
-outcome_code (Err e) = error_code e
 
 -- The type of a socket that C names by a number: 1 is a stream, 2 a seqpacket socket (the header's
 -- JW_STREAM, JW_SEQPACKET).

@@ -1,6 +1,6 @@
 //! Replies as C sees them.
 ghost use Rattle.std.specs.Prelude.{◌≡◌};
-ghost use Rattle.scm_c.specs.Codes.{code_of, error_code, outcome_code};
+ghost use Rattle.scm_c.specs.Codes.{code_of, error_code};
 
 use af_base::errno::Errno;
 use af_base::events::Reply;
@@ -13,16 +13,6 @@ pub(crate) fn refusal(error: Errno) -> i64
     ensures { result ≡ error_code error }
 {
     -i64::from(error.number())
-}
-
-/// Returns the answer of a call that has no number to report: 0 once it is done.
-pub(crate) fn answer(outcome: Result<(), Errno>) -> i64
-    ensures { result ≡ outcome_code outcome }
-{
-    match outcome {
-        Ok(()) => 0,
-        Err(error) => refusal(error),
-    }
 }
 
 /// Returns a reply as the number that a call answers.

@@ -5,9 +5,8 @@ ghost use Rattle.scm_c.specs.Calls.{DoesEvent, EngineDoes, Makes};
 use crate::answers::{NO_ENGINE, code, refusal};
 use crate::handle::Handle;
 use af_base::errno::Errno;
-use af_base::events::{Event, Reply, Step};
-use af_base::ids::Pid;
-use af_steps::Engine;
+use af_base::events::Reply;
+use af_steps::{Call, Engine};
 use std::alloc::Global;
 
 /// Makes an engine to which nothing has happened. An engine that was in the handle is freed, also
@@ -45,32 +44,24 @@ pub extern "C" fn jw_engine_free(alloc: Global, engine: &mut Handle)
     *engine = Handle::none(alloc);
 }
 
-/// Does one event, if there is an engine.
-pub(crate) fn reply_to(engine: &mut Handle, event: &Event) -> Option<Reply>
-    ensures done { IfSome result (λ r. EngineDoes engine.old.shown event.now r engine.new.shown) }
+/// Does the event of this call, if there is an engine.
+#[inline(always)]
+pub(crate) fn reply_to<C: Call + Drop>(engine: &mut Handle, call: C) -> Option<Reply>
+    ensures done { IfSome result (λ r.
+        EngineDoes engine.old.shown (C.event call) r engine.new.shown) }
     ensures none { IfNone result (engine.old.shown ≡ None) }
     ensures still { IfNone result (engine.new.shown ≡ None) }
 {
-    Some(engine.as_mut()?.step(event))
+    Some(engine.as_mut()?.reply_to(call))
 }
 
-/// Does one event, and answers the number of its reply.
-// Inlined, as the next one is, so that an event is made where it is read: to move one costs more
-// than a call.
+/// Does the event of this call, and answers the number of its reply.
 #[inline(always)]
-pub(crate) fn call(engine: &mut Handle, event: &Event) -> i64
-    ensures { DoesEvent engine.old.shown event.now result engine.new.shown }
+pub(crate) fn call<C: Call + Drop>(engine: &mut Handle, call: C) -> i64
+    ensures { DoesEvent engine.old.shown (C.event call) result engine.new.shown }
 {
-    match reply_to(engine, event) {
+    match reply_to(engine, call) {
         Some(reply) => code(&reply),
         None => NO_ENGINE,
     }
-}
-
-/// Does a step of a process, and answers the number of its reply.
-#[inline(always)]
-pub(crate) fn call_of(engine: &mut Handle, pid: u32, step: Step) -> i64
-    ensures { DoesEvent engine.old.shown (Event.Proc pid step) result engine.new.shown }
-{
-    call(engine, &Event::Proc(Pid(pid), step))
 }

@@ -3,12 +3,14 @@ ghost use Rattle.std.specs.Prelude.{◌≡◌, [], length, take};
 ghost use Rattle.scm_c.specs.Calls.{DoesEvent, DoesAndWrites};
 ghost use Rattle.scm_c.specs.Written.{as_u32, over, received_written, room};
 
-use crate::answers::{NO_ENGINE, code, refusal};
-use crate::engine::reply_to;
+use crate::answers::{NO_ENGINE, code};
+use crate::engine::{call, reply_to};
 use crate::handle::Handle;
 use af_base::events::{Event, Reply, Step};
 use af_base::ids::{Fd, Pid};
 use af_base::limits::{MAX_BYTES, SCM_MAX_FD};
+use af_steps::Call;
+use af_steps::calls::{Peek, Recv, Send};
 use arrayvec::ArrayVec;
 use std::alloc::Global;
 
@@ -47,15 +49,9 @@ pub extern "C" fn jw_send(
     ensures { DoesEvent engine.old.shown
         (Event.Proc pid (Step.Send fd bytes.now fds.now)) result engine.new.shown }
 {
-    let Some(inside) = engine.as_mut() else {
-        return NO_ENGINE;
-    };
     let mut first = ArrayVec::new();
     push_first(fds, &mut first);
-    match inside.send(Pid(pid), Fd(fd), bytes, first.as_slice()) {
-        Ok(count) => i64::from(count),
-        Err(error) => refusal(error),
-    }
+    call(engine, Send(Pid(pid), Fd(fd), bytes, first.as_slice()))
 }
 
 /// Puts the first of these descriptors into an empty list: as many as a message may have, and one
@@ -94,12 +90,8 @@ pub extern "C" fn jw_recv(
         (Step.Recv fd (room (length bytes.old)) (as_u32 (length fds.old)))) received_written
         (bytes.old, fds.old, out.old) result (bytes.new, fds.new, out.new) engine.new.shown }
 {
-    let step = Step::Recv {
-        on: Fd(fd),
-        max_bytes: room(bytes.len()),
-        max_fds: as_u32(fds.len()),
-    };
-    receive(engine, pid, step, bytes, fds, out)
+    let call = Recv(Pid(pid), Fd(fd), room(bytes.len()), as_u32(fds.len()));
+    receive(engine, call, bytes, fds, out)
 }
 
 /// Writes and answers what jw_recv would, but takes nothing from the queue (recvmsg(2), MSG_PEEK).
@@ -123,27 +115,22 @@ pub extern "C" fn jw_peek(
         (Step.Peek fd (room (length bytes.old)) (as_u32 (length fds.old)))) received_written
         (bytes.old, fds.old, out.old) result (bytes.new, fds.new, out.new) engine.new.shown }
 {
-    let step = Step::Peek {
-        on: Fd(fd),
-        max_bytes: room(bytes.len()),
-        max_fds: as_u32(fds.len()),
-    };
-    receive(engine, pid, step, bytes, fds, out)
+    let call = Peek(Pid(pid), Fd(fd), room(bytes.len()), as_u32(fds.len()));
+    receive(engine, call, bytes, fds, out)
 }
 
-/// Does this receive or peek of a process, and writes what it got.
-fn receive(
+/// Does this receive or peek, and writes what it got.
+fn receive<C: Call + Drop>(
     engine: &mut Handle,
-    pid: u32,
-    step: Step,
+    call: C,
     bytes: &mut [u8],
     fds: &mut [u32],
     out: &mut CReceived,
 ) -> i64
-    ensures { DoesAndWrites engine.old.shown (Event.Proc pid step) received_written
+    ensures { DoesAndWrites engine.old.shown (C.event call) received_written
         (bytes.old, fds.old, out.old) result (bytes.new, fds.new, out.new) engine.new.shown }
 {
-    let Some(reply) = reply_to(engine, &Event::Proc(Pid(pid), step)) else {
+    let Some(reply) = reply_to(engine, call) else {
         return NO_ENGINE;
     };
     write_received(&reply, bytes, fds, out);

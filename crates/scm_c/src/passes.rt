@@ -7,6 +7,8 @@ use crate::answers::{NO_ENGINE, code};
 use crate::engine::reply_to;
 use crate::handle::Handle;
 use af_base::events::{Event, Reply};
+use af_steps::Call;
+use af_steps::calls::{Begin, Pass, Slice};
 use std::alloc::Global;
 
 /// A pass of the collector that is over.
@@ -29,7 +31,7 @@ pub extern "C" fn jw_begin(alloc: Global, engine: &mut Handle, pass: &mut u64) -
     ensures { DoesAndWrites engine.old.shown Event.Begin begun_written pass.old result pass.new
         engine.new.shown }
 {
-    let Some(reply) = reply_to(engine, &Event::Begin) else {
+    let Some(reply) = reply_to(engine, Begin) else {
         return NO_ENGINE;
     };
     if let Reply::Started(number) = &reply {
@@ -53,7 +55,7 @@ pub extern "C" fn jw_slice(
     ensures { DoesAndWrites engine.old.shown
         (Event.Slice budget) finished_written out.old result out.new engine.new.shown }
 {
-    collect(engine, &Event::Slice(budget), out)
+    collect(engine, Slice(budget), out)
 }
 
 /// Does a whole pass at once: reclaims what no process can reach. Writes the number of the pass,
@@ -66,15 +68,15 @@ pub extern "C" fn jw_pass(alloc: Global, engine: &mut Handle, out: &mut CFinishe
     ensures { DoesAndWrites engine.old.shown Event.Pass finished_written out.old result out.new
         engine.new.shown }
 {
-    collect(engine, &Event::Pass, out)
+    collect(engine, Pass, out)
 }
 
-/// Does this event of the collector, and writes what it says of a pass that is over.
-fn collect(engine: &mut Handle, event: &Event, out: &mut CFinished) -> i64
-    ensures { DoesAndWrites engine.old.shown event.now finished_written out.old result out.new
+/// Does this call of the collector, and writes what it says of a pass that is over.
+fn collect<C: Call + Drop>(engine: &mut Handle, call: C, out: &mut CFinished) -> i64
+    ensures { DoesAndWrites engine.old.shown (C.event call) finished_written out.old result out.new
         engine.new.shown }
 {
-    let Some(reply) = reply_to(engine, event) else {
+    let Some(reply) = reply_to(engine, call) else {
         return NO_ENGINE;
     };
     write_finished(&reply, out);

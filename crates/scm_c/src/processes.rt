@@ -1,11 +1,11 @@
 //! Processes and their tables.
 ghost use Rattle.scm_c.specs.Calls.{DoesEvent};
 
-use crate::answers::{NO_ENGINE, answer, refusal};
-use crate::engine::{call, call_of};
+use crate::engine::call;
 use crate::handle::Handle;
 use af_base::events::{Event, Step};
 use af_base::ids::{Fd, Pid, Uid};
+use af_steps::calls::{Close, Dup, Dup2, Exit, Fork, Limit, Open, Spawn};
 use std::alloc::Global;
 
 /// Starts a process of this user, as after fork(2) and setuid(2), with an empty table and a limit
@@ -25,12 +25,7 @@ pub extern "C" fn jw_spawn(
     ensures { DoesEvent engine.old.shown (Event.Spawn uid nofile privileged) result
         engine.new.shown }
 {
-    let event = Event::Spawn {
-        uid: Uid(uid),
-        nofile,
-        privileged,
-    };
-    call(engine, &event)
+    call(engine, Spawn(Uid(uid), nofile, privileged))
 }
 
 /// Opens a plain file (open(2)). Answers its descriptor, the lowest that is free.
@@ -41,13 +36,7 @@ pub extern "C" fn jw_spawn(
 pub extern "C" fn jw_open(alloc: Global, engine: &mut Handle, pid: u32) -> i64
     ensures { DoesEvent engine.old.shown (Event.Proc pid Step.Open) result engine.new.shown }
 {
-    let Some(inside) = engine.as_mut() else {
-        return NO_ENGINE;
-    };
-    match inside.open(Pid(pid)) {
-        Ok(fd) => i64::from(fd.0),
-        Err(error) => refusal(error),
-    }
+    call(engine, Open(Pid(pid)))
 }
 
 /// Duplicates a descriptor (dup(2)). Answers the new descriptor, the lowest that is free. Needs no
@@ -59,7 +48,7 @@ pub extern "C" fn jw_open(alloc: Global, engine: &mut Handle, pid: u32) -> i64
 pub extern "C" fn jw_dup(alloc: Global, engine: &mut Handle, pid: u32, fd: u32) -> i64
     ensures { DoesEvent engine.old.shown (Event.Proc pid (Step.Dup fd)) result engine.new.shown }
 {
-    call_of(engine, pid, Step::Dup(Fd(fd)))
+    call(engine, Dup(Pid(pid), Fd(fd)))
 }
 
 /// Duplicates a descriptor at a given number, in place of what that number had (dup2(2)). Answers
@@ -73,7 +62,7 @@ pub extern "C" fn jw_dup2(alloc: Global, engine: &mut Handle, pid: u32, from: u3
     ensures { DoesEvent engine.old.shown (Event.Proc pid (Step.Dup2 from to)) result
         engine.new.shown }
 {
-    call_of(engine, pid, Step::Dup2(Fd(from), Fd(to)))
+    call(engine, Dup2(Pid(pid), Fd(from), Fd(to)))
 }
 
 /// Closes a descriptor (close(2)). Answers 0.
@@ -83,10 +72,7 @@ pub extern "C" fn jw_dup2(alloc: Global, engine: &mut Handle, pid: u32, from: u3
 pub extern "C" fn jw_close(alloc: Global, engine: &mut Handle, pid: u32, fd: u32) -> i64
     ensures { DoesEvent engine.old.shown (Event.Proc pid (Step.Close fd)) result engine.new.shown }
 {
-    let Some(inside) = engine.as_mut() else {
-        return NO_ENGINE;
-    };
-    answer(inside.close(Pid(pid), Fd(fd)))
+    call(engine, Close(Pid(pid), Fd(fd)))
 }
 
 /// Makes a child of the process, with a copy of its table (fork(2)). Answers the child's pid.
@@ -97,7 +83,7 @@ pub extern "C" fn jw_close(alloc: Global, engine: &mut Handle, pid: u32, fd: u32
 pub extern "C" fn jw_fork(alloc: Global, engine: &mut Handle, pid: u32) -> i64
     ensures { DoesEvent engine.old.shown (Event.Proc pid Step.Fork) result engine.new.shown }
 {
-    call_of(engine, pid, Step::Fork)
+    call(engine, Fork(Pid(pid)))
 }
 
 /// Changes the limit on the process's descriptors, to a lower or a higher one (setrlimit(2),
@@ -111,7 +97,7 @@ pub extern "C" fn jw_limit(alloc: Global, engine: &mut Handle, pid: u32, nofile:
     ensures { DoesEvent engine.old.shown (Event.Proc pid (Step.Limit nofile)) result
         engine.new.shown }
 {
-    call_of(engine, pid, Step::Limit(nofile))
+    call(engine, Limit(Pid(pid), nofile))
 }
 
 /// Ends the process and closes its descriptors (_exit(2)). Answers 0.
@@ -121,5 +107,5 @@ pub extern "C" fn jw_limit(alloc: Global, engine: &mut Handle, pid: u32, nofile:
 pub extern "C" fn jw_exit(alloc: Global, engine: &mut Handle, pid: u32) -> i64
     ensures { DoesEvent engine.old.shown (Event.Proc pid Step.Exit) result engine.new.shown }
 {
-    call_of(engine, pid, Step::Exit)
+    call(engine, Exit(Pid(pid)))
 }

@@ -4,12 +4,13 @@ ghost use Rattle.scm_c.specs.Calls.{DoesEvent, DoesAndWrites, RefusesFirst};
 ghost use Rattle.scm_c.specs.Codes.{how_named, type_named};
 ghost use Rattle.scm_c.specs.Written.{pair_written};
 
-use crate::answers::{NO_ENGINE, answer, code, refusal};
-use crate::engine::{call_of, reply_to};
+use crate::answers::{NO_ENGINE, code, refusal};
+use crate::engine::{call, reply_to};
 use crate::handle::Handle;
 use af_base::errno::Errno;
 use af_base::events::{Event, Reply, Shutdown, SockType, Step};
 use af_base::ids::{Fd, Pid};
+use af_steps::calls::{self, Accept, Bind, Connect, Listen, Pair, Socket};
 use std::alloc::Global;
 
 /// The descriptors of two connected sockets.
@@ -45,8 +46,7 @@ pub extern "C" fn jw_pair(
     let Some(kind) = type_named(kind) else {
         return refusal(Errno::EINVAL);
     };
-    let event = Event::Proc(Pid(pid), Step::Pair(kind));
-    let Some(reply) = reply_to(engine, &event) else {
+    let Some(reply) = reply_to(engine, Pair(Pid(pid), kind)) else {
         return NO_ENGINE;
     };
     write_pair(&reply, out);
@@ -89,7 +89,7 @@ pub extern "C" fn jw_socket(alloc: Global, engine: &mut Handle, pid: u32, kind: 
         (RefusesFirst engine.old.shown Errno.EINVAL result engine.new.shown) }
 {
     match type_named(kind) {
-        Some(kind) => call_of(engine, pid, Step::Socket(kind)),
+        Some(kind) => call(engine, Socket(Pid(pid), kind)),
         None => refusal(Errno::EINVAL),
     }
 }
@@ -104,10 +104,7 @@ pub extern "C" fn jw_bind(alloc: Global, engine: &mut Handle, pid: u32, fd: u32,
     ensures { DoesEvent engine.old.shown (Event.Proc pid (Step.Bind fd name.now)) result
         engine.new.shown }
 {
-    let Some(inside) = engine.as_mut() else {
-        return NO_ENGINE;
-    };
-    answer(inside.bind(Pid(pid), Fd(fd), name))
+    call(engine, Bind(Pid(pid), Fd(fd), name))
 }
 
 /// Lets a socket with a name wait for connections, with room for 1 to 128 (listen(2)). Answers 0.
@@ -125,11 +122,7 @@ pub extern "C" fn jw_listen(
     ensures { DoesEvent engine.old.shown
         (Event.Proc pid (Step.Listen fd backlog)) result engine.new.shown }
 {
-    let step = Step::Listen {
-        on: Fd(fd),
-        backlog,
-    };
-    call_of(engine, pid, step)
+    call(engine, Listen(Pid(pid), Fd(fd), backlog))
 }
 
 /// Closes an end of a socket, or both (shutdown(2)): its input for JW_SHUT_RD, its output for
@@ -151,10 +144,10 @@ pub extern "C" fn jw_shutdown(
     ensures invalid { IfNone (how_named how)
         (RefusesFirst engine.old.shown Errno.EINVAL result engine.new.shown) }
 {
-    let Some(how) = how_named(how) else {
-        return refusal(Errno::EINVAL);
-    };
-    call_of(engine, pid, Step::Shutdown { on: Fd(fd), how })
+    match how_named(how) {
+        Some(how) => call(engine, calls::Shutdown(Pid(pid), Fd(fd), how)),
+        None => refusal(Errno::EINVAL),
+    }
 }
 
 /// Returns what C means by this number of shutdown(2).
@@ -186,10 +179,7 @@ pub extern "C" fn jw_connect(
     ensures { DoesEvent engine.old.shown (Event.Proc pid (Step.Connect fd name.now)) result
         engine.new.shown }
 {
-    let Some(inside) = engine.as_mut() else {
-        return NO_ENGINE;
-    };
-    answer(inside.connect(Pid(pid), Fd(fd), name))
+    call(engine, Connect(Pid(pid), Fd(fd), name))
 }
 
 /// Accepts the connection that waits longest at a listener (accept(2)). Answers the new socket's
@@ -201,5 +191,5 @@ pub extern "C" fn jw_connect(
 pub extern "C" fn jw_accept(alloc: Global, engine: &mut Handle, pid: u32, fd: u32) -> i64
     ensures { DoesEvent engine.old.shown (Event.Proc pid (Step.Accept fd)) result engine.new.shown }
 {
-    call_of(engine, pid, Step::Accept(Fd(fd)))
+    call(engine, Accept(Pid(pid), Fd(fd)))
 }

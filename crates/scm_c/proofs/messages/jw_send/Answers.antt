@@ -1,35 +1,16 @@
-use Rattle.std.proofs.Common.{rules, ◌≡◌, subst, take}
+use Rattle.std.proofs.Common.{rules, ◌≡◌, ℤ, List, ℕ, subst, take}
 use mir.Syntax.{w64}
 use mir.Val.{to_z, of_z}
-use Rattle.af_base.specs.declared.events.Reply.TheVariants as reply
+use Rattle.af_base.specs.declared.events.Event.TheVariants as event
 use Rattle.af_base.specs.declared.events.Step.TheVariants as step
-use Rattle.af_steps.specs.Outcome.{Answers}
-use Rattle.af_steps.proofs.FoldedReplies.{does-step, refuses-step}
-use Rattle.scm_c.specs.Codes.{code_of}
-use Rattle.scm_c.proofs.LargeSends.{first-suffice}
-use Rattle.scm_c.proofs.Outcomes.{replies}
+use Rattle.scm_c.specs.Calls.{DoesEvent}
+use Rattle.scm_c.proofs.LargeSends.{sends-all}
 use Rattle.scm_c.proofs.messages.jw_send.Goals as goal
 
-pub returns-in-Ok : goal.returns-in-Ok
-returns-in-Ok c =
-    let old = c.in-Some.inside.now in
-    let new = c.send.new.self in
-    let sends = step.Send c.args.fd c.args.bytes.now in
-    let replied = reply.Sent c.in-Ok.count in
+-- The first numbers suffice.
+pub returns : goal.returns
+returns c =
+    let Sends : List ℕ × ℤ → Type 0 = λ p. DoesEvent c.args.engine.now.shown (event.Proc c.args.pid (step.Send c.args.fd c.args.bytes.now p.0)) p.1 c.call.new.engine.shown in
     let first : c.as_slice.result.now ≡ take 254 c.args.fds.now = search rules in
-    let did = subst (λ xs. Answers old c.args.pid (sends xs) replied new) first (does-step old c.args.pid (sends c.as_slice.result.now) new replied c.in-Ok.ensures.done) in
-    let all = first-suffice old new c.args.pid c.args.fd c.args.bytes.now c.args.fds.now replied did in
-    let answers : to_z w64 (of_z w64 c.from.result) ≡ code_of replied = search rules in
-    replies c.args.engine.now.shown old new c.in-Some.ensures.value c.args.pid (sends c.args.fds.now) (λ room. room) _ replied all answers
-
-pub returns-in-Err : goal.returns-in-Err
-returns-in-Err c =
-    let old = c.in-Some.inside.now in
-    let new = c.send.new.self in
-    let sends = step.Send c.args.fd c.args.bytes.now in
-    let replied = reply.Refused c.in-Err.error in
-    let first : c.as_slice.result.now ≡ take 254 c.args.fds.now = search rules in
-    let did = subst (λ xs. Answers old c.args.pid (sends xs) replied new) first (refuses-step old c.args.pid (sends c.as_slice.result.now) new c.in-Err.error c.in-Err.ensures.refused) in
-    let all = first-suffice old new c.args.pid c.args.fd c.args.bytes.now c.args.fds.now replied did in
-    let answers : to_z w64 (of_z w64 c.refusal.result) ≡ code_of replied = search rules in
-    replies c.args.engine.now.shown old new c.in-Some.ensures.value c.args.pid (sends c.args.fds.now) (λ room. room) _ replied all answers
+    let answer : c.call.result ≡ to_z w64 (of_z w64 c.call.result) = search rules in
+    sends-all _ _ _ _ _ _ _ (subst Sends (λ i. (first i, answer i)) c.call.ensures)
