@@ -10,7 +10,7 @@ use crate::broker::delivery::{End, deliver};
 use crate::broker::host::{HostFile, close_released};
 use crate::broker::reclaim::reclaim;
 use jaywardrobe::limits::MAX_BUDGET;
-use jaywardrobe::{Errno, Fd, Finished, Owned, Pid, Progress, SockType, Uid};
+use jaywardrobe::{Errno, Fd, Finished, Owned, Pid, Progress, SockType, Uid, calls};
 use std::io;
 
 /// How many descriptors the client hands over.
@@ -36,9 +36,9 @@ fn serve(rt: &HostRuntime, engine: &mut Owned<HostFile>) -> io::Result<()> {
 
 /// Makes a client with a worker as its child, and returns the ends of the connection between them.
 fn connect(engine: &mut Owned<HostFile>) -> Result<(End, End), Errno> {
-    let client = engine.spawn(Uid(1_000), 16, false)?;
-    let (here, there) = engine.pair(client, SockType::Seqpacket)?;
-    let worker = engine.fork(client)?;
+    let client = engine.call(calls::Spawn(Uid(1_000), 16, false))?;
+    let (here, there) = engine.call(calls::Pair(client, SockType::Seqpacket))?;
+    let worker = engine.call(calls::Fork(client))?;
     Ok((
         End {
             pid: client,
@@ -93,14 +93,14 @@ fn hand_over(
 /// Ends these processes, and collects what they leave.
 fn shut_down(rt: &HostRuntime, engine: &mut Owned<HostFile>, pids: &[Pid]) -> io::Result<()> {
     for pid in pids {
-        let _ = engine.exit(*pid);
+        let _ = engine.call(calls::Exit(*pid));
     }
     close_released(rt, engine)?;
     // A pass that runs began too early to find all. With so few files one slice ends it.
-    if let Ok(Progress::Done(finished)) = engine.slice(MAX_BUDGET) {
+    if let Ok(Progress::Done(finished)) = engine.call(calls::Slice(MAX_BUDGET)) {
         show_pass(rt, &finished)?;
     }
-    if let Ok(finished) = engine.pass() {
+    if let Ok(finished) = engine.call(calls::Pass) {
         show_pass(rt, &finished)?;
     }
     close_released(rt, engine)
@@ -121,10 +121,10 @@ fn request(
 ) -> Result<Fd, Errno> {
     let file = engine.open(client, report).map_err(|refused| refused.0)?;
     let lost = engine.open(client, draft).map_err(|refused| refused.0)?;
-    let (left, right) = engine.pair(client, SockType::Stream)?;
-    engine.send(client, left, b"lost", &[right, lost])?;
+    let (left, right) = engine.call(calls::Pair(client, SockType::Stream))?;
+    engine.call(calls::Send(client, left, b"lost", &[right, lost]))?;
     for fd in [left, right, lost] {
-        engine.close(client, fd)?;
+        engine.call(calls::Close(client, fd))?;
     }
     Ok(file)
 }

@@ -5,9 +5,10 @@ use Rattle.std.specs.Ordering.{nat_cmp}
 use Rattle.std.specs.FinMap as map
 use Rattle.std.proofs.lemmas.Bool.{cases_Bool, false≢true, le-ltb, lt-ltb, ltb-true}
 use Rattle.af_base.specs.declared.errno.Errno.{Errno}
+use Rattle.af_base.specs.declared.events.Event.{Event}
+use Rattle.af_base.specs.declared.events.Event.TheVariants as event
 use Rattle.af_base.specs.declared.events.Reply.{Reply}
 use Rattle.af_base.specs.declared.events.Reply.TheVariants as reply
-use Rattle.af_base.specs.declared.events.Step.{Step}
 use Rattle.af_base.specs.declared.events.Step.TheVariants as step
 use Rattle.af_base.specs.Changes.{add_file}
 use Rattle.af_base.specs.Counts.{count_in}
@@ -20,11 +21,10 @@ use Rattle.af_base.proofs.Lookups.{insert-here, insert-other, none_some, remove-
 use Rattle.af_base.proofs.PurgedWorlds.{slice-by}
 use Rattle.af_base.proofs.Sums.{total-remove}
 use Rattle.af_base.proofs.Totals.{total-count}
-use Rattle.af_steps.specs.Outcome.{Does, Refuses, RefusesStart, Starts, finished_reply, progress_reply}
-use Rattle.af_steps.specs.declared.passes.Finished.{Finished}
-use Rattle.af_steps.specs.declared.passes.Progress.{Progress}
-use Rattle.jaywardrobe.specs.OwnedView.{AreOwned, kind}
-use Rattle.jaywardrobe.proofs.PlainFiles.{Follows, follows-purge, follows-same, follows-spawn, follows-step, is_open, settled-kind}
+use Rattle.af_steps.specs.Called.{DoesEvent, RefusesEvent}
+use Rattle.af_steps.specs.Outcome.{Does}
+use Rattle.jaywardrobe.specs.OwnedView.{AreOwned, kind, opens}
+use Rattle.jaywardrobe.proofs.PlainFiles.{Follows, follows-purge, follows-same, follows-spawn, follows-step, settled-kind}
 
 -- A number that was given stays so, as more are given.
 given-rises : (since : Since) (a b f : ℕ) → a ≤ b → was_given since a f ≡ true → was_given since b f ≡ true
@@ -70,18 +70,6 @@ module _ {T : Type 0} (m n : Machine) (values : Map T) (last : ℕ) (h : AreOwne
 owned-same : {T : Type 0} (m n : Machine) (values : Map T) (last : ℕ) → AreOwned m values last → n ≡ m → AreOwned n values last
 owned-same m n values last h is = subst (λ x. AreOwned x values last) (sym is) h
 
--- The outcome of a call.
-pub owned-call : {T : Type 0} (m n : Machine) (values : Map T) (last : ℕ) → AreOwned m values last → (p : ℕ) (s : Step) → is_open s ≡ false
-    → {X : Type 0} (o : Result X Errno) (tells : X → Reply) → IfOk o (λ x. Does m p s (tells x) n) → IfErr o (λ e. Refuses m p s e n) → AreOwned n values last
-owned-call m n values last h p s closed (Ok x) tells done refused = owned-follows m n values last h done.3.2 (follows-step m.world n.world p s closed done.2)
-owned-call m n values last h p s closed (Err e) tells done refused = owned-same m n values last h refused.1
-
--- The same for the start of a process.
-pub owned-spawn : {T : Type 0} (m n : Machine) (values : Map T) (last : ℕ) → AreOwned m values last → (uid nofile : ℕ) (privileged : Bool)
-    → (o : Result ℕ Errno) → IfOk o (λ p. Starts m uid nofile privileged p n) → IfErr o (λ e. RefusesStart m nofile e n) → AreOwned n values last
-owned-spawn m n values last h uid nofile privileged (Ok p) done refused = owned-follows m n values last h done.3.2 (follows-spawn m.world n.world uid nofile privileged done.2)
-owned-spawn m n values last h uid nofile privileged (Err e) done refused = owned-same m n values last h refused.1
-
 module _ {T : Type 0} (m n : Machine) (values : Map T) (last : ℕ) (h : AreOwned m values last) where
   -- A begin keeps all values.
   begins : (pass : Pass) (r : Reply) → Begins pass m r n → AreOwned n values last
@@ -101,20 +89,18 @@ module _ {T : Type 0} (m n : Machine) (values : Map T) (last : ℕ) (h : AreOwne
   passes Idle r p = owned-follows m n values last h p.3 (follows-purge p.0.test m.world n.world p.0.purged)
   passes (Running begun spent) r p = owned-same m n values last h p.1
 
-  -- So does the call of a begin.
-  pub owned-begin : (o : Result ℕ Errno) → IfOk o (λ k. Begins m.pass m (reply.Started k) n) → IfErr o (λ e. Begins m.pass m (reply.Refused e) n) → AreOwned n values last
-  owned-begin (Ok k) done refused = begins m.pass (reply.Started k) done
-  owned-begin (Err e) done refused = begins m.pass (reply.Refused e) refused
-
-  -- So does the call of a slice.
-  pub owned-slice : (b : ℕ) (o : Result Progress Errno) → IfOk o (λ x. GoesOn m.pass m b (progress_reply x) n) → IfErr o (λ e. GoesOn m.pass m b (reply.Refused e) n) → AreOwned n values last
-  owned-slice b (Ok x) done refused = goes-on m.pass b (progress_reply x) done
-  owned-slice b (Err e) done refused = goes-on m.pass b (reply.Refused e) refused
-
-  -- So does the call of a whole pass.
-  pub owned-pass : (o : Result Finished Errno) → IfOk o (λ x. PassesWhole m.pass m (finished_reply x) n) → IfErr o (λ e. PassesWhole m.pass m (reply.Refused e) n) → AreOwned n values last
-  owned-pass (Ok x) done refused = passes m.pass (finished_reply x) done
-  owned-pass (Err e) done refused = passes m.pass (reply.Refused e) refused
+  -- The outcome of a call that opens nothing.
+  pub owned-event : (e : Event) → opens e ≡ false → {X : Type 0} (o : Result X Errno) (tells : X → Reply) → IfOk o (λ x. DoesEvent m e (tells x) n) → IfErr o (λ x. RefusesEvent m e x n) → AreOwned n values last
+  owned-event (event.Proc p s) closed (Ok x) tells done refused = owned-follows m n values last h done.3.2 (follows-step m.world n.world p s closed done.2)
+  owned-event (event.Proc p s) closed (Err e) tells done refused = owned-same m n values last h refused.1
+  owned-event (event.Spawn uid nofile privileged) closed (Ok x) tells done refused = owned-follows m n values last h done.3.2 (follows-spawn m.world n.world uid nofile privileged done.2)
+  owned-event (event.Spawn uid nofile privileged) closed (Err e) tells done refused = owned-same m n values last h refused.1
+  owned-event event.Begin closed (Ok x) tells done refused = begins m.pass (tells x) done
+  owned-event event.Begin closed (Err e) tells done refused = begins m.pass (reply.Refused e) refused
+  owned-event (event.Slice b) closed (Ok x) tells done refused = goes-on m.pass b (tells x) done
+  owned-event (event.Slice b) closed (Err e) tells done refused = goes-on m.pass b (reply.Refused e) refused
+  owned-event event.Pass closed (Ok x) tells done refused = passes m.pass (tells x) done
+  owned-event event.Pass closed (Err e) tells done refused = passes m.pass (reply.Refused e) refused
 
 -- A file was opened, and carries a value.
 module _ {T : Type 0} (m n : Machine) (values : Map T) (last p fd : ℕ) (h : AreOwned m values last) (v : T) (d : Does m p step.Open (reply.Fd fd) n) where

@@ -4,6 +4,7 @@ use Rattle.std.specs.Prelude.{◌⊎◌, Option, Some, None, if◌then◌else◌
 use Rattle.std.specs.List.{list_any, zip}
 use Rattle.std.specs.Ordering.{nat_cmp, eq_by_cmp}
 use Rattle.std.specs.FinMap as map
+use Rattle.af_base.specs.declared.events.Event.TheVariants as event
 use Rattle.af_base.specs.declared.events.Step.{Step}
 use Rattle.af_base.specs.declared.events.Step.TheVariants as step
 use Rattle.af_base.specs.Changes.{add_file, add_process, connected, dequeued, file_with, install, install_all, listening, pushed, queued, shut, with_name, with_queue, with_socket}
@@ -17,7 +18,7 @@ use Rattle.af_base.proofs.Lookups.{insert-here, insert-other, same_or_not}
 use Rattle.af_base.proofs.PurgeOrder.{get-emptied}
 use Rattle.af_base.proofs.SettledWorlds.{get-without}
 use Rattle.af_base.proofs.AllowedSteps.{get-change_at}
-use Rattle.jaywardrobe.specs.OwnedView.{kind}
+use Rattle.jaywardrobe.specs.OwnedView.{kind, opens}
 
 -- Each file is what it was, or is a new socket.
 abbrev Stays : World → World → ℕ → Type 0
@@ -80,13 +81,8 @@ grows-all : (w : World) (p : ℕ) (es : List (ℕ × ℕ)) → Grows w (install_
 grows-all w p [] = grows-same w w refl refl
 grows-all w p (e ∷ es) = grows-join w (install w p e.0 e.1) (install_all (install w p e.0 e.1) p es) (grows-same w (install w p e.0 e.1) refl refl) (grows-all (install w p e.0 e.1) p es)
 
--- Whether the step makes a plain file.
-abbrev pub is_open : Step → Bool
-is_open step.Open = true
-is_open s = false
-
 -- The change of a step other than an open.
-grows-effect : (w : World) (p : ℕ) (s : Step) → is_open s ≡ false → Grows w (effect w p s)
+grows-effect : (w : World) (p : ℕ) (s : Step) → opens (event.Proc p s) ≡ false → Grows w (effect w p s)
 grows-effect w p step.Open e = absurd cc
 grows-effect w p (step.Dup n) e = grows-same w (effect w p (step.Dup n)) refl refl
 grows-effect w p (step.Dup2 n m) e = by (nat_eq m n) where
@@ -175,7 +171,7 @@ follows-same old new is = record {
 }
 
 -- A step but an open was done.
-pub follows-step : (old new : World) (p : ℕ) (s : Step) → is_open s ≡ false → Settles (effect old p s) new → Follows old new
+pub follows-step : (old new : World) (p : ℕ) (s : Step) → opens (event.Proc p s) ≡ false → Settles (effect old p s) new → Follows old new
 follows-step old new p s e = follows-settles old (effect old p s) new (grows-effect old p s e)
 
 -- A process was started.

@@ -19,6 +19,7 @@ pub use Rattle.af_base.specs.Whole
 pub use Rattle.af_base.specs.Listing
 pub use Rattle.af_base.specs.Ready
 pub use Rattle.af_base.specs.Told
+pub use Rattle.af_steps.specs.Called
 pub use Rattle.af_steps.specs.FileInfo
 pub use Rattle.af_steps.specs.Outcome
 pub use Rattle.af_layer.specs.Audit

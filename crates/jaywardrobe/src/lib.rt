@@ -5,13 +5,13 @@
 //! ```text
 //! /// Loses a file in a cycle, collects it, and closes what is behind it.
 //! fn lose(files: &mut Owned<HostFile>, pid: Pid, host_file: HostFile) -> Result<(), Errno> {
-//!     let (here, there) = files.pair(pid, SockType::Seqpacket)?;
+//!     let (here, there) = files.call(calls::Pair(pid, SockType::Seqpacket))?;
 //!     let file = files.open(pid, host_file).map_err(|(errno, _)| errno)?;
 //!     // The receiving socket is sent into its own queue, with the file.
-//!     files.send(pid, here, b"take this", &[file, there])?;
-//!     files.exit(pid)?;
-//!     files.begin()?;
-//!     while let Progress::Working = files.slice(64)? {}
+//!     files.call(calls::Send(pid, here, b"take this", &[file, there]))?;
+//!     files.call(calls::Exit(pid))?;
+//!     files.call(calls::Begin)?;
+//!     while let Progress::Working = files.call(calls::Slice(64))? {}
 //!     while let Some(host_file) = files.take_released() {
 //!         host_file.close();
 //!     }
@@ -20,7 +20,7 @@
 //! ```
 //!
 //! [`Owned`] keeps a value behind each plain file, here a `HostFile` of the program, and hands it
-//! back once the file is freed. Like [`Engine`] it has a call for each event.
+//! back once the file is freed. It does the other events as the values of [`calls`].
 //!
 //! Each call of [`Engine`] is one event of a small plain machine, which has tables, queues and no
 //! count. It is answered as the machine says, or refused by the first test that fits, and then
@@ -44,5 +44,7 @@ pub use af_base::listing::{
 };
 pub use af_base::ready::Ready;
 pub use af_layer::Shared;
-pub use af_steps::{Engine, FileInfo, Finished, Progress, Received, RunStopped, ToldList};
+pub use af_steps::{
+    Answer, Call, Engine, FileInfo, Finished, Progress, Received, RunStopped, ToldList, calls,
+};
 pub use owned::Owned;

@@ -4,8 +4,8 @@
 //! A value stays behind its file for as long as a table, a queue or a backlog holds the file. Once
 //! the file is freed, by a close, an exit, a receive that drops descriptors, or the collector, its
 //! value is handed back, exactly once.
-ghost use Rattle.std.specs.Prelude.{◌≡◌, ◌<◌, ℕ, false, true, IfErr, IfNone, IfOk, IfSome, IsTrue};
-ghost use Rattle.std.specs.Prelude.{OnErr, OnOk, option_copied};
+ghost use Rattle.std.specs.Prelude.{◌≡◌, ◌<◌, ℕ, false, true, IfErr, IfNone, IfOk, IfSome, IsOk};
+ghost use Rattle.std.specs.Prelude.{IsTrue, OnErr, OnOk, option_copied};
 ghost use Rattle.std.specs.Borrow.{sem};
 ghost use Rattle.std.specs.Option.{OnSome, option_and_then, option_copied_mut};
 ghost use Rattle.std.specs.FinMap as map;
@@ -16,15 +16,14 @@ ghost use Rattle.af_base.specs.Run.{fresh};
 ghost use Rattle.af_base.specs.Told.{AreSocketsOnce, TellsChanged};
 ghost use Rattle.af_base.specs.Whole.{IsSound};
 ghost use Rattle.af_base.specs.World.{IsLive, is_live};
+ghost use Rattle.af_steps.specs.Called.{DoesEvent, EventCannotFail, RefusesEvent};
 ghost use Rattle.af_steps.specs.Outcome.{Does, Refuses};
-ghost use Rattle.jaywardrobe.specs.OwnedView.{AreCarried, HandsBack};
-
-mod calls;
+ghost use Rattle.jaywardrobe.specs.OwnedView.{AreCarried, HandsBack, opens};
 
 use af_base::errno::Errno;
 use af_base::events::{Reply, Step};
 use af_base::ids::{Fd, FileRef, Ino, Pid};
-use af_steps::{Engine, ToldList};
+use af_steps::{Call, Engine, ToldList};
 use ordered_slab::OrderedSlab;
 use std::alloc::{AllocError, Global};
 use std::marker::Model;
@@ -155,6 +154,21 @@ impl<T> Owned<T> {
         self.engine.lemma_is_sound();
         self.values.push(ino, value);
         Ok(fd)
+    }
+
+    /// Does the event of this call, any but an open: `files.call(calls::Dup(pid, fd))` for
+    /// `Engine::dup`. The values stay as they are.
+    #[inline(always)]
+    pub fn call<C: Call>(&mut self, call: C) -> Result<C::Answer, Errno>
+        requires { opens (C.event call) ≡ false }
+        ensures done { IfOk result (λ answer.
+            DoesEvent self.old.machine (C.event call) (C.Answer.told answer) self.new.machine) }
+        ensures refused { IfErr result (λ e.
+            RefusesEvent self.old.machine (C.event call) e self.new.machine) }
+        ensures succeeds { EventCannotFail self.old.machine.world (C.event call) → IsOk result }
+        ensures values { self.new.values ≡ self.old.values }
+    {
+        call.call(&mut self.engine)
     }
 
     /// Returns the value of the file that a descriptor refers to; `None` where the descriptor is

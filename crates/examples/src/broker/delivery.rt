@@ -3,7 +3,7 @@ ghost use Rattle.std.specs.Prelude.{◌≡◌, IfErr, IfOk, OnOk};
 ghost use Rattle.examples.specs.Delivery.{Delivers, IsIdle, Takes, descriptor_value};
 
 use crate::broker::host::HostFile;
-use jaywardrobe::{Errno, Fd, Owned, Pid, Received};
+use jaywardrobe::{Errno, Fd, Owned, Pid, Received, calls};
 use std::fmt;
 
 /// The bytes sent with a descriptor: a message has a byte at least (unix(7)).
@@ -54,7 +54,7 @@ pub fn deliver(
         error ≡ Undelivered.Busy → ¬ (IsIdle engine.old.machine.world to.now.pid to.now.fd)) }
 {
     check_idle(engine, to)?;
-    match engine.send(from.pid, from.fd, PAYLOAD, &[fd]) {
+    match engine.call(calls::Send(from.pid, from.fd, PAYLOAD, &[fd])) {
         Ok(_) => receive(engine, to),
         Err(error) => Err(Undelivered::Refused(error)),
     }
@@ -68,7 +68,7 @@ fn check_idle(engine: &mut Owned<HostFile>, end: &End) -> Result<(), Undelivered
     ensures busy { IfErr result (λ error.
         error ≡ Undelivered.Busy → ¬ (IsIdle engine.old.machine.world end.now.pid end.now.fd)) }
 {
-    match engine.peek(end.pid, end.fd, 1, 0) {
+    match engine.call(calls::Peek(end.pid, end.fd, 1, 0)) {
         Ok(Received::Got { .. }) => Err(Undelivered::Busy),
         Ok(Received::End) => Err(Undelivered::Refused(Errno::EPIPE)),
         Err(Errno::EAGAIN) => Ok(()),
@@ -83,7 +83,7 @@ fn receive(engine: &mut Owned<HostFile>, end: &End) -> Result<Fd, Undelivered>
     ensures values { engine.new.values ≡ engine.old.values }
     ensures not_busy { IfErr result (λ error. ¬ (error ≡ Undelivered.Busy)) }
 {
-    match engine.recv(end.pid, end.fd, 1, 1) {
+    match engine.call(calls::Recv(end.pid, end.fd, 1, 1)) {
         Ok(Received::Got { fds, .. }) => match fds.as_slice() {
             [fd] => Ok(*fd),
             _ => Err(Undelivered::Closed),

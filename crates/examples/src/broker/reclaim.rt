@@ -2,7 +2,7 @@
 ghost use Rattle.examples.specs.Reclaim.{Reclaims};
 
 use crate::broker::host::HostFile;
-use jaywardrobe::{Finished, Owned, Progress};
+use jaywardrobe::{Finished, Owned, Progress, calls};
 
 /// How many files a slice looks at.
 const BUDGET: u32 = 4;
@@ -11,11 +11,11 @@ const BUDGET: u32 = 4;
 pub fn reclaim(engine: &mut Owned<HostFile>) -> Option<Finished>
     ensures { Reclaims engine.old.machine.pass engine.old.machine result engine.new.machine }
 {
-    match engine.slice(BUDGET) {
+    match engine.call(calls::Slice(BUDGET)) {
         Ok(Progress::Done(finished)) => Some(finished),
         Ok(Progress::Working) => None,
         Err(_) => {
-            let _ = engine.begin();
+            let _ = engine.call(calls::Begin);
             None
         }
     }

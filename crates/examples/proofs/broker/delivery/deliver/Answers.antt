@@ -17,15 +17,15 @@ pub returns-in-Ok-clause-delivered : goal.returns-in-Ok-clause-delivered
 returns-in-Ok-clause-delivered c =
     let from = c.args.from.now in
     let to = c.args.to.now in
-    let sent = subst (λ (o : OwnedView _). Does o.machine from.pid (step.Send from.fd (46 ∷ []) (c.args.fd ∷ [])) (reply.Sent c.in-Ok.field-0) c.send.new.self.machine) c.in_ok-check_idle.ensures.same c.in-Ok.ensures.done in
+    let sent = subst (λ (o : OwnedView _). Does o.machine from.pid (step.Send from.fd (46 ∷ []) (c.args.fd ∷ [])) (reply.Sent c.in-Ok.field-0) c.call.new.self.machine) c.in_ok-check_idle.ensures.same c.in-Ok.ensures.done in
     if_ok c.receive.result c.receive.ensures.taken
-    (λ got took. delivered c.args.engine.now.machine c.send.new.self.machine c.receive.new.engine.machine from.pid from.fd c.args.fd to.pid to.fd got (46 ∷ []) (reply.Sent c.in-Ok.field-0) c.in_ok-check_idle.ensures.idle sent took)
+    (λ got took. delivered c.args.engine.now.machine c.call.new.self.machine c.receive.new.engine.machine from.pid from.fd c.args.fd to.pid to.fd got (46 ∷ []) (reply.Sent c.in-Ok.field-0) c.in_ok-check_idle.ensures.idle sent took)
 
 -- No call on the way moves a value.
 pub returns-in-Ok-clause-carried : goal.returns-in-Ok-clause-carried
 returns-in-Ok-clause-carried c =
     let from = c.args.from.now in
     let to = c.args.to.now in
-    let same = c.receive.ensures.values ∙ c.send.ensures.values ∙ ap (λ (o : OwnedView _). o.values) c.in_ok-check_idle.ensures.same in
+    let same = c.receive.ensures.values ∙ c.call.ensures.values ∙ ap (λ (o : OwnedView _). o.values) c.in_ok-check_idle.ensures.same in
     if_ok c.receive.result (returns-in-Ok-clause-delivered c)
     (λ got d. carried c.args.engine.now c.receive.new.engine from.pid c.args.fd to.pid got d same)
