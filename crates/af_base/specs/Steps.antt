@@ -50,12 +50,13 @@ with_embryo w c l kind = with_socket
 abbrev pub first_embryo : World → ℕ → ℕ → ℕ
 first_embryo w p n = unwrap_or (slice_get (socket_on w p n).backlog 0) 0
 
--- Whether shutdown(2) closes the input, and whether it closes the output.
+-- Whether the input is closed (shutdown(2), SHUT_RD, SHUT_RDWR).
 abbrev pub closes_input : Shutdown → Bool
 closes_input how.Read = true
 closes_input how.Write = false
 closes_input how.Both = true
 
+-- Whether the output is closed (shutdown(2), SHUT_WR, SHUT_RDWR).
 abbrev pub closes_output : Shutdown → Bool
 closes_output how.Read = false
 closes_output how.Write = true

@@ -34,9 +34,9 @@ pub enum State {
 /// Which ends of a socket shutdown(2) has closed: at first none, and an end is never opened again.
 #[derive(Clone, Copy, Debug, PartialEq, Eq)]
 pub struct Ends {
-    /// The input: nothing more can be sent here.
+    /// The input is closed: nothing more can be sent here.
     pub no_input: bool,
-    /// The output: nothing more can be sent from here.
+    /// The output is closed: nothing more can be sent from here.
     pub no_output: bool,
 }
 

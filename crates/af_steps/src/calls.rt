@@ -16,7 +16,7 @@ use af_base::events::{self, Reply, SockType};
 use af_base::ids::{Fd, Pid, Uid};
 use af_base::items::Bytes;
 
-/// What a call answers.
+/// The answer of a call.
 pub trait Answer {
     /// The reply that says it.
     ghost told: { Self → Reply };
@@ -28,7 +28,7 @@ pub trait Answer {
 
 /// A call that does one event.
 pub trait Call {
-    /// What it answers.
+    /// The type of its answer.
     type Answer: Answer;
 
     /// The event that it does.

@@ -73,7 +73,7 @@ fn is_writable(store: &Store, socket: &Socket) -> bool
     }
 }
 
-/// Returns whether a socket takes one message more, or why not.
+/// Returns whether a socket takes one message more, or why not; any other file does.
 #[inline(always)]
 pub(crate) fn check_target(store: &Store, file: &FileRef) -> Result<(), Errno>
     ensures ok { OnOk result (first_fit (target_row store.now.world file.now) ≡ None) }
