@@ -1,19 +1,129 @@
--- A closed end stays closed.
-use Rattle.std.proofs.Common.{◌≡◌, ℕ, Bool, true, ◌||◌, refl, sym, ap, ◌∙◌, subst, arith}
-use Rattle.std.specs.Prelude.{Some, is_some}
+-- Which ends a shutdown closes, that a closed end stays closed, and that nothing is sent through it.
+use Rattle.std.proofs.Common.{◌≡◌, ℕ, Bool, true, false, not, ◌||◌, [], ◌∷◌, ◌++◌, length, refl, sym, ap, ◌∙◌, subst, cond, arith}
+use Rattle.std.specs.Prelude.{Option, Some, None, is_some, option_map, unwrap_or}
 use Rattle.std.specs.Option.{option_and_then}
+use Rattle.std.specs.Ordering.{nat_cmp, eq_by_cmp}
+use Rattle.std.specs.Cmp.{unsigned_tied}
 use Rattle.std.specs.FinMap as map
+use Rattle.af_base.specs.declared.errno.Errno.TheVariants.{ENOTCONN, EPIPE}
+use Rattle.af_base.specs.declared.events.Ends.{Ends}
 use Rattle.af_base.specs.declared.events.Event.{Event}
 use Rattle.af_base.specs.declared.events.Event.TheVariants as event
+use Rattle.af_base.specs.declared.events.Reply.TheVariants as reply
+use Rattle.af_base.specs.declared.events.Shutdown.{Shutdown}
 use Rattle.af_base.specs.declared.events.Step.{Step}
 use Rattle.af_base.specs.declared.events.Step.TheVariants as step
-use Rattle.af_base.specs.World.{AsSocket, Socket}
-use Rattle.af_base.specs.Changes.{shut}
-use Rattle.af_base.specs.Refusals.{socket_of}
-use Rattle.af_base.proofs.Lookups.{some_same}
+use Rattle.af_base.specs.World.{AsSocket, File, Plain, Socket, World}
+use Rattle.af_base.specs.Changes.{closed, file_with, shut, with_socket}
+use Rattle.af_base.specs.Counts.{charged, total}
+use Rattle.af_base.specs.Places.{queue_at, table_at}
+use Rattle.af_base.specs.Refusals.{RefusalRow, first_fit, is_deaf, is_hung_up, on_charge, on_input, on_parts, on_peer, on_room, peer_of, process_at, refusal, socket_of}
+use Rattle.af_base.specs.Steps.{Outcome, closes_input, closes_output, effect, with_shut}
+use Rattle.af_base.proofs.AllowedSteps.{get-change_at}
+use Rattle.af_base.proofs.Lookups.{itself, some_same, told_apart}
+use Rattle.af_base.proofs.SoundSteps.{passes-on}
+use Rattle.af_laws.proofs.Outcomes.{settled_stays}
+use Rattle.af_laws.proofs.Polls.{left, socket-is}
+use Rattle.af_laws.proofs.Shutdowns.{shut_settled}
 use Rattle.af_laws.proofs.SocketChanges.{file_of_socket}
 use Rattle.af_laws.proofs.SocketWalks.{AllowsEvent, AllowsStep, Have, IsLasting, have_event}
-use Rattle.af_laws.specs.Shutting.{ShutEndsStayShut, StayShut}
+use Rattle.af_laws.specs.Shutting.{ClosesEnds, NothingIsSentThroughAClosedEnd, ShutEndsStayShut, ShutdownClosesEnds, StayShut, ends_at}
+
+-- The ends of a socket that are closed, if a file is one.
+abbrev ends_of : Option File → Option Ends
+ends_of o = option_map (λ s. s.ends) (option_and_then socket_of o)
+
+-- Ends of the socket k are closed.
+module _ (w : World) (k : ℕ) (a b : Bool) where
+  -- The ends of a file after it, by whether it is that socket.
+  ends_after : (q : ℕ) (same : Bool) → eq_by_cmp nat_cmp q k ≡ same → ends_at (with_socket w k (shut a b)) q ≡ ends_of (option_map (λ x. cond same (file_with (shut a b) x) x) (map.get w.files q))
+  ends_after q same is = ap ends_of (get-change_at (file_with (shut a b)) w.files k q) ∙ ap (λ c. ends_of (option_map (λ x. cond c (file_with (shut a b) x) x) (map.get w.files q))) is
+
+  -- They are closed.
+  closed_here : ends_at (with_socket w k (shut a b)) k ≡ option_map (closed a b) (ends_at w k)
+  closed_here = ends_after k true (unsigned_tied k k ∙ itself k) ∙ by (map.get w.files k) where
+    by : (o : Option File) → ends_of (option_map (λ x. cond true (file_with (shut a b) x) x) o) ≡ option_map (closed a b) (ends_of o)
+    by None = refl
+    by (Some Plain) = refl
+    by (Some (AsSocket s)) = refl
+
+  -- No others are.
+  closed_nowhere_else : (q : ℕ) → ¬ (q ≡ k)
+      → ends_at (with_socket w k (shut a b)) q ≡ ends_at w q
+  closed_nowhere_else q other = ends_after q false (unsigned_tied q k ∙ told_apart q k other) ∙ by (map.get w.files q) where
+    by : (o : Option File) → ends_of (option_map (λ x. cond false (file_with (shut a b) x) x) o) ≡ ends_of o
+    by None = refl
+    by (Some x) = refl
+
+-- The effect of a shutdown closes the ends.
+closes_ends : (w : World) (f q : ℕ) (how : Shutdown) → ¬ (q ≡ f)
+    → ClosesEnds w (with_shut w f q how) f q how
+closes_ends w f q how two = record {
+  own = closed_nowhere_else mid q output input f (λ same. two (sym same)) ∙ closed_here w f input output;
+  met =
+      closed_here mid q output input
+      ∙ ap (option_map (closed output input)) (closed_nowhere_else w f input output q two);
+  others = λ g not_own not_met. closed_nowhere_else mid q output input g not_met ∙ closed_nowhere_else w f input output g not_own;
+} where
+  input : Bool
+  input = closes_input how
+
+  output : Bool
+  output = closes_output how
+
+  mid : World
+  mid = with_socket w f (shut input output)
+
+pub shutdown_closes_ends : ShutdownClosesEnds
+shutdown_closes_ends old new p n f how s settled stands is two h =
+    subst (λ w. ClosesEnds old w f q how) (sym led) (closes_ends old f q how two) where
+      q : ℕ
+      q = peer_of s.state
+
+      -- The effect, of what was looked up.
+      same : effect old p (step.Shutdown n how) ≡ with_shut old f q how
+      same = λ i. with_shut old (unwrap_or (stands i) 0) (peer_of (socket-is old p n f s stands is i).state) how
+
+      done : Outcome None true reply.Ok (with_shut old f q how) old reply.Ok new
+      done = subst (λ w. Outcome None true reply.Ok w old reply.Ok new) same (subst (λ o. Outcome o true reply.Ok (effect old p (step.Shutdown n how)) old reply.Ok new) (left old p n f s stands is (λ x. [])) h)
+
+      led : new ≡ with_shut old f q how
+      led = (settled_stays (with_shut old f q how) new (shut_settled old f q how settled)).0 done.1
+
+-- What is closed besides is closed.
+or_closed : (a : Bool) → (a || true) ≡ true
+or_closed true = refl
+or_closed false = refl
+
+pub nothing_is_sent_through_a_closed_end : NothingIsSentThroughAClosedEnd
+nothing_is_sent_through_a_closed_end w p n f bytes attach s stands is talks valid = record {
+  output = λ shut_output. looked_up ∙ ap (λ b. first_fit (rest b)) (ap (λ b. is_hung_up s.state || b) shut_output ∙ or_closed (is_hung_up s.state));
+  input = λ deaf free. looked_up ∙ refused_by_input deaf free (is_hung_up s.state || s.ends.no_output);
+} where
+  q : ℕ
+  q = peer_of s.state
+
+  -- The tests of the charge.
+  charge : RefusalRow
+  charge = let user = process_at w p in on_charge (charged w user.user) (total w) user.limit user.privileged (length attach)
+
+  -- The tests of the input and the room.
+  last : RefusalRow
+  last = on_input (is_deaf w q) ++ on_room (queue_at w q)
+
+  -- The tests of a connected socket, where this is whether nothing can leave it.
+  rest : Bool → RefusalRow
+  rest b = (b, EPIPE) ∷ (charge ++ last)
+
+  looked_up : refusal w p (step.Send n bytes attach) ≡ first_fit (rest (is_hung_up s.state || s.ends.no_output))
+  looked_up = left w p n f s stands is (λ x. on_parts (table_at w p) bytes attach ++ on_peer x ++ charge ++ on_input (is_deaf w (peer_of x.state)) ++ on_room (queue_at w (peer_of x.state)))
+      ∙ passes-on (on_parts (table_at w p) bytes attach) (on_peer s ++ charge ++ last) valid
+      ∙ (λ i. first_fit ((not (talks i), ENOTCONN) ∷ rest (is_hung_up s.state || s.ends.no_output)))
+
+  refused_by_input : is_deaf w q ≡ true → first_fit charge ≡ None → (b : Bool)
+      → first_fit (rest b) ≡ Some EPIPE
+  refused_by_input deaf free true = refl
+  refused_by_input deaf free false = passes-on charge last free ∙ (λ i. first_fit ((deaf i, EPIPE) ∷ on_room (queue_at w q)))
 
 pub shut_ends_stay_shut : ShutEndsStayShut
 shut_ends_stay_shut old new e r whole h f x y was is = have_event old.world.next_ino Shut lasts old new e r (allows e) (omega arith) before h f y (file_of_socket new.world f y is) refl where

@@ -124,7 +124,7 @@ module _ (w : World) (f q : ℕ) (how : Shutdown) where
   }
 
   -- Nothing is to be freed.
-  shut_settled : IsSettled w → IsSettled now
+  pub shut_settled : IsSettled w → IsSettled now
   shut_settled settled = altered_settled mid q met (λ x. refl) (λ x. refl) (altered_settled w f own (λ x. refl) (λ x. refl) settled)
 
   -- The same ends closed again leave the world.

@@ -1,6 +1,7 @@
--- Laws of a shutdown: what it leaves as it was, and what a receive finds after it. Definitions that
--- name no manual page are of this project's profile (docs/PROFILE.md).
-use Rattle.std.specs.Prelude.{◌≡◌, ◌<◌, ℕ, true, [], length, Some, None}
+-- Laws of a shutdown: what it closes, what it leaves as it was, and what a send and a receive find
+-- after it. Definitions that name no manual page are of this project's profile (docs/PROFILE.md).
+use Rattle.std.specs.Prelude.{◌≡◌, ◌<◌, ℕ, true, List, [], length, Option, Some, None, option_map}
+use Rattle.af_base.specs.declared.errno.Errno.TheVariants.{EPIPE}
 use Rattle.af_base.specs.declared.events.Ends.{Ends}
 use Rattle.af_base.specs.declared.events.Event.{Event}
 use Rattle.af_base.specs.declared.events.Reply.{Reply}
@@ -9,12 +10,14 @@ use Rattle.af_base.specs.declared.events.Shutdown.{Shutdown}
 use Rattle.af_base.specs.declared.events.Step.TheVariants as step
 use Rattle.af_base.specs.declared.limits.TheConstants.{MAX_BYTES}
 use Rattle.af_base.specs.World.{Socket, World, is_live}
+use Rattle.af_base.specs.Changes.{closed}
+use Rattle.af_base.specs.Counts.{charged, total}
 use Rattle.af_base.specs.Places.{backlog_at, queue_at, table_at}
 use Rattle.af_base.specs.Names.{is_between}
 use Rattle.af_base.specs.Pass.{Machine}
-use Rattle.af_base.specs.Refusals.{is_connected, refusal, socket_at, socket_on}
+use Rattle.af_base.specs.Refusals.{first_fit, is_connected, is_deaf, on_charge, on_parts, peer_of, process_at, refusal, socket_at, socket_on}
 use Rattle.af_base.specs.Run.{Step as MachineStep}
-use Rattle.af_base.specs.Steps.{ProcessStep, answer, taken_on}
+use Rattle.af_base.specs.Steps.{ProcessStep, answer, closes_input, closes_output, taken_on}
 use Rattle.af_base.specs.Unheld.{IsSettled}
 use Rattle.af_base.specs.Whole.{IsWhole, name_at, state_at}
 use Rattle.af_laws.specs.Connecting.{SameCounts}
@@ -41,6 +44,27 @@ abbrev pub ShutdownNeverFails : Type 0
 ShutdownNeverFails = (old new : World) (p n f : ℕ) (how : Shutdown) (s : Socket) (r : Reply)
     → table_at old p n ≡ Some f → socket_at old f ≡ Some s
     → ProcessStep old p (step.Shutdown n how) r new → r ≡ reply.Ok
+
+-- Which ends of the file f are closed, if it is a socket.
+abbrev pub ends_at : World → ℕ → Option Ends
+ends_at w f = option_map (λ s. s.ends) (socket_at w f)
+
+-- What a shutdown of the socket f, whose peer is q, closes: these ends of the socket, those of the
+-- peer that they meet, and none of another.
+pub record ClosesEnds (old new : World) (f q : ℕ) (how : Shutdown) : Type 0 where
+  pub own : ends_at new f
+      ≡ option_map (closed (closes_input how) (closes_output how)) (ends_at old f)
+  pub met : ends_at new q
+      ≡ option_map (closed (closes_output how) (closes_input how)) (ends_at old q)
+  pub others : (g : ℕ) → ¬ (g ≡ f) → ¬ (g ≡ q) → ends_at new g ≡ ends_at old g
+
+-- A shutdown that answers Ok closes the ends of the socket and of its peer, which is another
+-- (shutdown(2)).
+abbrev pub ShutdownClosesEnds : Type 0
+ShutdownClosesEnds = (old new : World) (p n f : ℕ) (how : Shutdown) (s : Socket) → IsSettled old
+    → table_at old p n ≡ Some f → socket_at old f ≡ Some s → ¬ (peer_of s.state ≡ f)
+    → ProcessStep old p (step.Shutdown n how) reply.Ok new
+    → ClosesEnds old new f (peer_of s.state) how
 
 -- A second shutdown of the same kind changes nothing, whatever both are answered.
 abbrev pub SecondShutdownChangesNothing : Type 0
@@ -86,3 +110,21 @@ ShutInputEnds = (w : World) (p n f max_bytes max_fds : ℕ) (s : Socket) → tab
     → s.ends.no_input ≡ true → is_between 1 MAX_BYTES max_bytes ≡ true
     → (refusal w p (step.Recv n max_bytes max_fds) ≡ None)
     × (answer w p (step.Recv n max_bytes max_fds) ≡ reply.End)
+
+-- A send of process p at n, where it has the socket s, is refused by EPIPE: if the output is closed,
+-- and if the input of the peer is, where it is not refused for its charge.
+pub record NothingIsSent (w : World) (p n : ℕ) (bytes attach : List ℕ) (s : Socket) : Type 0 where
+  pub output : s.ends.no_output ≡ true → refusal w p (step.Send n bytes attach) ≡ Some EPIPE
+  pub input : is_deaf w (peer_of s.state) ≡ true
+      → (let q = process_at w p in
+      first_fit (on_charge (charged w q.user) (total w) q.limit q.privileged (length attach)))
+      ≡ None
+      → refusal w p (step.Send n bytes attach) ≡ Some EPIPE
+
+-- Nothing is sent through a closed end by a send at a connected socket that is valid in its parts
+-- (sendmsg(2), EPIPE).
+abbrev pub NothingIsSentThroughAClosedEnd : Type 0
+NothingIsSentThroughAClosedEnd = (w : World) (p n f : ℕ) (bytes attach : List ℕ) (s : Socket)
+    → table_at w p n ≡ Some f → socket_at w f ≡ Some s → is_connected s.state ≡ true
+    → first_fit (on_parts (table_at w p) bytes attach) ≡ None
+    → NothingIsSent w p n bytes attach s

@@ -2,6 +2,7 @@
 ghost use Rattle.af_laws.specs.Shutting.{ShutdownChangesNoPlace, ShutdownNeverFails};
 ghost use Rattle.af_laws.specs.Shutting.{SecondShutdownChangesNothing, ShutEndsStayShut};
 ghost use Rattle.af_laws.specs.Shutting.{WhatWaitsIsReceivedAfterShutdown, ShutInputEnds};
+ghost use Rattle.af_laws.specs.Shutting.{ShutdownClosesEnds, NothingIsSentThroughAClosedEnd};
 
 /// A shutdown changes no place, no name and no state, whatever the answer.
 pub fn shutdown_changes_no_place()
@@ -12,6 +13,12 @@ pub fn shutdown_changes_no_place()
 /// are closed already.
 pub fn shutdown_never_fails()
     ensures { ShutdownNeverFails }
+{}
+
+/// A shutdown that answers Ok closes the ends of the socket, those of its peer that they meet, and
+/// none of another socket.
+pub fn shutdown_closes_ends()
+    ensures { ShutdownClosesEnds }
 {}
 
 /// A second shutdown of the same kind changes nothing, whatever both are answered.
@@ -33,4 +40,9 @@ pub fn what_waits_is_received_after_shutdown()
 /// A valid receive from a connected socket with a closed input, where nothing waits, answers End.
 pub fn shut_input_ends()
     ensures { ShutInputEnds }
+{}
+
+/// A send through a closed output, or to a closed input of the peer, is refused by EPIPE.
+pub fn nothing_is_sent_through_a_closed_end()
+    ensures { NothingIsSentThroughAClosedEnd }
 {}
