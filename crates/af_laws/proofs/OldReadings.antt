@@ -1,5 +1,5 @@
 -- In an old world each definition reads as it did.
-use Rattle.std.proofs.Common.{◌≡◌, ℕ, Bool, false, not, ◌&&◌, ◌||◌, List, [], ◌∷◌, ◌++◌, length, refl, sym, ap, ◌∙◌, subst, nat_eq}
+use Rattle.std.proofs.Common.{◌≡◌, ◌↔◌, ℕ, Bool, false, not, ◌&&◌, ◌||◌, List, [], ◌∷◌, ◌++◌, length, refl, sym, ap, ◌∙◌, subst, nat_eq}
 use Rattle.std.specs.Prelude.{Option, Some, None, is_none, nat_le, option_map, unwrap_or}
 use Rattle.std.specs.Option.{option_and_then, option_map_or}
 use Rattle.std.specs.List.{All, find}
@@ -17,13 +17,14 @@ use Rattle.af_base.specs.declared.events.Step.TheVariants as step
 use Rattle.af_base.specs.declared.limits.TheConstants.{MAX_BYTES}
 use Rattle.af_base.specs.World.{AsSocket, File, Map, Plain, Socket, World, open_ends}
 use Rattle.af_base.specs.Counts.{charged, total}
-use Rattle.af_base.specs.Names.{has_name, is_between, named, set_of}
+use Rattle.af_base.specs.Names.{bound_to, has_name, is_between, named, set_of}
 use Rattle.af_base.specs.Pass.{Machine}
 use Rattle.af_base.specs.Places.{queue_at, queue_in, table_at}
 use Rattle.af_base.specs.Ready.{found, is_cut_off, ready_in, ready_of}
 use Rattle.af_base.specs.Refusals.{at_socket, first_fit, is_connected, is_deaf_in, ino_on, is_hung_up, is_listening, is_same_type, no_socket, on_accept, on_bind, on_charge, on_client, on_files, on_input, on_listener, on_name, on_parts, on_peer, on_process, on_receive, on_room, peer_of, process_at, refusal, room_of, socket_at, socket_of, socket_on}
 use Rattle.af_base.specs.Run.{Run, RunEntry, Step as MachineStep}
 use Rattle.af_base.specs.Steps.{Outcome, answer, effect, needs_no_memory, with_embryo}
+use Rattle.af_base.specs.Whole.{bound_at, name_at}
 use Rattle.af_laws.proofs.OldWorlds.{effect_old, event_old, first_old}
 use Rattle.af_laws.specs.Keeping.{AreOld, IsOldEvent, IsOldMachine, IsOldStep, OldRunsAreRunsThen, OldWorldsReadAsThen, RunThen, StepThen, effect_then, found_then, has_name_then, named_then, on_listener_then, on_peer_then, on_receive_then, ready_in_then, ready_of_then, refusal_then, socket_named_then}
 
@@ -80,6 +81,10 @@ module _ (files : Map File) (old : AreOld files) where
           hung_up = cut_same s opened i;
         })
 
+-- What a socket of this name is bound to.
+abbrev in_one_set : List ℕ → ℕ × List ℕ
+in_one_set name = (0, name)
+
 -- An old world.
 module _ (w : World) (old : AreOld w.files) where
   -- The ends of what is looked up are open.
@@ -110,6 +115,29 @@ module _ (w : World) (old : AreOld w.files) where
     each : (x : File) → has_name (set_of kind) name x ≡ has_name_then name x
     each Plain = refl
     each (AsSocket s) = one kind s.kind (option_map_or (bytes_eq name) s.name false)
+
+  -- What a file is bound to is its name, in the one set.
+  bound : (f : ℕ) → bound_at w f ≡ option_map in_one_set (name_at w f)
+  bound f = by (socket_at w f) where
+    one : (kind : SockType) (o : Option (List ℕ))
+        → option_map {U = ℕ × List ℕ} (λ name. (set_of kind, name)) o ≡ option_map in_one_set o
+    one Stream o = refl
+    one Seqpacket o = refl
+
+    by : (o : Option Socket) → option_and_then bound_to o ≡ option_map in_one_set (option_and_then (λ s. s.name) o)
+    by None = refl
+    by (Some s) = one s.kind s.name
+
+  -- Files are bound to the same exactly if they have the same name.
+  bound_same : (f g : ℕ) → (bound_at w f ≡ bound_at w g) ↔ (name_at w f ≡ name_at w g)
+  bound_same f g = (
+    λ e. sym (again (name_at w f)) ∙ ap (option_map (λ b. b.1)) (sym (bound f) ∙ e ∙ bound g) ∙ again (name_at w g),
+    λ e. bound f ∙ ap (option_map in_one_set) e ∙ sym (bound g),
+  ) where
+    again : (o : Option (List ℕ))
+        → option_map (λ (b : ℕ × List ℕ). b.1) (option_map in_one_set o) ≡ o
+    again None = refl
+    again (Some name) = refl
 
   -- A receive is refused as it was.
   receive_refused : (p n max_bytes max_fds : ℕ) → refusal w p (step.Recv n max_bytes max_fds) ≡ refusal_then w p (step.Recv n max_bytes max_fds)
@@ -152,6 +180,7 @@ module _ (w : World) (old : AreOld w.files) where
 pub old_worlds_read_as_then : OldWorldsReadAsThen
 old_worlds_read_as_then w old = record {
   names = named_same w old;
+  bindings = bound_same w old;
   refusals = refused_same w old;
   changes = changed_same w old;
   effects = λ p s is. effect_old w p s is old;

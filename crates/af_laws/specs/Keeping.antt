@@ -26,6 +26,7 @@ use Rattle.af_base.specs.Ready.{found, ready_in}
 use Rattle.af_base.specs.Refusals.{RefusalRow, at_socket, first_fit, is_connected, is_hung_up, ino_on, is_listening, is_same_type, no_socket, on_accept, on_bind, on_charge, on_client, on_files, on_name, on_parts, on_process, on_room, peer_of, process_at, refusal, room_of, socket_at, socket_on, step_row}
 use Rattle.af_base.specs.Run.{Run, RunEntry, Step as MachineStep, fresh}
 use Rattle.af_base.specs.Steps.{Outcome, answer, effect, needs_no_memory, with_embryo}
+use Rattle.af_base.specs.Whole.{bound_at, name_at}
 
 -- ---- Old events and old worlds.
 
@@ -196,7 +197,8 @@ effect_then w p (step.Connect n name) =
 effect_then w p s = effect w p s
 
 -- From the world `old` process p may get this reply to the step, and then the world is `new`.
--- Which steps need no memory and what they answer is defined as it was.
+-- Taken as they are now: which steps need no memory, what is answered, and the rows and effects of
+-- the steps that none of these definitions lists.
 abbrev pub ProcessStepThen : World → ℕ → Step → Reply → World → Type 0
 ProcessStepThen old p s r new = Outcome (refusal_then old p s) (needs_no_memory s) (answer old p s)
     (effect_then old p s) old r new
@@ -213,13 +215,14 @@ RunThen old (e ∷ es) new = (mid : Machine) × StepThen old e.0 e.1 mid × RunT
 
 -- ---- What they say is the same.
 
--- Each definition that has a new part reads in this world as it did: whom a name finds, refusals
--- and effects of old steps, the readiness of files, and what steps find of it. The effect of an old
--- step is old again.
+-- These read in this world as they did: refusals and effects of old steps, whom a name finds, which
+-- files have one name, the readiness of files, and what steps find of it. The effect of an old step
+-- is old again.
 pub record ReadsAsThen (w : World) : Type 0 where
   pub refusals : (p : ℕ) (s : Step) → IsOldStep s → refusal w p s ≡ refusal_then w p s
   pub names : (kind : SockType) (name : List ℕ)
       → named w.files (set_of kind) name ≡ named_then w.files name
+  pub bindings : (f g : ℕ) → (bound_at w f ≡ bound_at w g) ↔ (name_at w f ≡ name_at w g)
   pub changes : (p : ℕ) (s : Step) → IsOldStep s → effect w p s ≡ effect_then w p s
   pub effects : (p : ℕ) (s : Step) → IsOldStep s → IsOldWorld (effect w p s)
   pub readiness : (f : ℕ) → ready_in w.files f ≡ ready_in_then w.files f
