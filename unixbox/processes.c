@@ -53,10 +53,20 @@ uint64_t read_capabilities(const char *text) {
     return read_mask(text, "CapEff");
 }
 
+static uint64_t mask_of(int number) {
+    return (uint64_t)1 << (number - 1);
+}
+
+/* Returns the signals that do nothing to a process of this status. By default, some do not. */
+static uint64_t ignored(const char *status) {
+    uint64_t quiet = mask_of(SIGCHLD) | mask_of(SIGCONT) | mask_of(SIGURG) | mask_of(SIGWINCH);
+    return read_mask(status, "SigIgn") | (quiet & ~read_mask(status, "SigCgt"));
+}
+
 /* Returns whether a signal waits for the thread of this status. One that is sent to a process goes
  * to its first thread, unless that blocks it or is over. */
 static bool has_signal(const char *status, pid_t tid, pid_t tgid) {
-    uint64_t taken = read_mask(status, "SigBlk") | read_mask(status, "SigIgn");
+    uint64_t taken = read_mask(status, "SigBlk") | ignored(status);
     uint64_t own = read_mask(status, "SigPnd") & ~taken;
     uint64_t shared = read_mask(status, "ShdPnd") & ~taken;
     if (tid != tgid && shared != 0) {

@@ -1,8 +1,9 @@
-/* Sends and receives on streams in calls that wait, and says what comes out.
+/* Sends and receives on streams in calls that wait, waits for children, and says what comes out.
  *
  * Each check prints a line, the same natively and under unixbox. The status is 0 if all hold. */
 #define _GNU_SOURCE
 #include "must.h"
+#include <pthread.h>
 #include <signal.h>
 #include <sys/socket.h>
 #include <sys/time.h>
@@ -10,7 +11,7 @@
 #include <time.h>
 #include <unistd.h>
 
-enum { LONG = 300000, PAUSE = 50000, TIMEOUT = 100000 }; /* Bytes; microseconds. */
+enum { LONG = 300000, PAUSE = 50000, TIMEOUT = 100000, CHILDREN = 4 }; /* Bytes; microseconds. */
 
 static char bytes[LONG];
 
@@ -136,6 +137,30 @@ static void check_long(void) {
     must_end(on);
 }
 
+static void *wait_for_child(void *child) {
+    int status;
+    MUST(waitpid(*(pid_t *)child, &status, 0) == *(pid_t *)child && status == 0);
+    return NULL;
+}
+
+/* SIGCHLD does nothing by default: where the first thread blocks it, it waits, but ends no calls of
+ * the others. */
+static void check_children(void) {
+    pid_t children[CHILDREN];
+    pthread_t threads[CHILDREN];
+    sigset_t all, old;
+    for (int i = 0; i < CHILDREN; i++) {
+        children[i] = fork();
+        if (children[i] == 0) _exit(usleep((useconds_t)(i + 1) * PAUSE) < 0);
+        MUST(pthread_create(&threads[i], NULL, wait_for_child, &children[i]) == 0);
+    }
+    sigfillset(&all);
+    MUST(pthread_sigmask(SIG_BLOCK, &all, &old) == 0);
+    for (int i = 0; i < CHILDREN; i++) MUST(pthread_join(threads[i], NULL) == 0);
+    MUST(pthread_sigmask(SIG_SETMASK, &old, NULL) == 0);
+    printf("children: %d ended\n", CHILDREN);
+}
+
 int main(void) {
     setvbuf(stdout, NULL, _IOLBF, 0); /* No child inherits a line. */
     check_all();
@@ -143,5 +168,6 @@ int main(void) {
     check_signal();
     check_timeout();
     check_long();
+    check_children();
     return 0;
 }
