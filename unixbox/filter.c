@@ -203,22 +203,24 @@ static void finish(struct call *call, long result) {
     }
 }
 
-static bool is_interrupted(const struct call *call) {
-    struct status status;
-    return !read_status(call->tid, &status) || status.is_signalled;
+/* Returns what ends a waiting call where a signal has come, or CALL_WAITS. The kernel makes EINTR of
+ * a restart for the thread that gets the signal, and for no other. */
+static long interruption_of(const struct call *call) {
+    enum signal_state signal = signal_for(call->tid, call->process->tgid);
+    if (signal == NO_SIGNAL) return CALL_WAITS;
+    return signal == HAS_SIGNAL && call->deadline == NEVER ? RESTART : -EINTR;
 }
 
 /* Serves woken calls once more, unless their callers are over, whose processes may be forgotten. If
- * one has to wait on and a signal has come, it ends: the kernel makes EINTR of a restart. */
+ * one has to wait on and a signal has come, it ends. */
 void rerun_woken_calls(void) {
     for (struct call *call; (call = TAILQ_FIRST(&woken)) != NULL;) {
         TAILQ_REMOVE(&woken, call, entries);
         call->is_sure = is_pending(call);
         long result = call->is_sure ? serve_call(call) : KERNEL_DOES_IT;
-        if (result == CALL_WAITS && is_interrupted(call)) {
-            result = serve_call(call); /* What came with the signal goes first. */
-            if (result == CALL_WAITS) result = call->deadline == NEVER ? RESTART : -EINTR;
-        }
+        long interruption = result == CALL_WAITS ? interruption_of(call) : CALL_WAITS;
+        if (interruption != CALL_WAITS) result = serve_call(call); /* What came goes first. */
+        if (result == CALL_WAITS) result = interruption;
         finish(call, result);
     }
     answer_done();

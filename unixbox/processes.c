@@ -63,18 +63,40 @@ static uint64_t ignored(const char *status) {
     return read_mask(status, "SigIgn") | (quiet & ~read_mask(status, "SigCgt"));
 }
 
-/* Returns whether a signal waits for the thread of this status. One that is sent to a process goes
- * to its first thread, unless that blocks it or is over. */
-static bool has_signal(const char *status, pid_t tid, pid_t tgid) {
+static bool is_over(const char *status) {
+    return status[0] == '\0' || field(status, "State")[1] == 'Z';
+}
+
+/* Whether a thread beside this one takes one of these signals. */
+static bool is_taken_elsewhere(uint64_t signals, pid_t tid, pid_t tgid) {
+    char path[64];
+    bool is_taken = false;
+    snprintf(path, sizeof path, "/proc/%d/task", tgid);
+    DIR *threads = opendir(path);
+    if (threads == NULL) return false;
+    for (struct dirent *it; !is_taken && (it = readdir(threads)) != NULL;) {
+        if (it->d_name[0] == '.' || atoi(it->d_name) == tid) continue;
+        const char *status = read_all(atoi(it->d_name), "status");
+        is_taken = !is_over(status) && (signals & ~read_mask(status, "SigBlk")) != 0;
+    }
+    closedir(threads);
+    return is_taken;
+}
+
+/* Returns whether a signal waits for a thread, or the thread is over. A signal to a process goes to
+ * the first thread, or where that blocks it or is over, to one of the others: the kernel does not
+ * tell to which. */
+enum signal_state signal_for(pid_t tid, pid_t tgid) {
+    const char *status = read_all(tid, "status");
     uint64_t taken = read_mask(status, "SigBlk") | ignored(status);
     uint64_t own = read_mask(status, "SigPnd") & ~taken;
     uint64_t shared = read_mask(status, "ShdPnd") & ~taken;
-    if (tid != tgid && shared != 0) {
-        const char *first = read_all(tgid, "status");
-        bool is_over = field(first, "State")[1] == 'Z' || first[0] == '\0';
-        if (!is_over) shared &= read_mask(first, "SigBlk");
-    }
-    return (own | shared) != 0;
+    if (is_over(status) || own != 0) return HAS_SIGNAL;
+    if (tid == tgid || shared == 0) return shared != 0 ? HAS_SIGNAL : NO_SIGNAL;
+    const char *first = read_all(tgid, "status");
+    if (!is_over(first)) shared &= read_mask(first, "SigBlk");
+    if (shared == 0) return NO_SIGNAL;
+    return is_taken_elsewhere(shared, tid, tgid) ? MAY_HAVE_SIGNAL : HAS_SIGNAL;
 }
 
 /* Reads what a thread and its process are. Returns false where it is over. */
@@ -90,7 +112,6 @@ bool read_status(pid_t tid, struct status *out) {
     read_numbers(text, "Gid", groups, 2);
     out->real = (struct ucred){(pid_t)tgid, users[0], groups[0]};
     out->user = (struct ucred){(pid_t)tgid, users[1], groups[1]};
-    out->is_signalled = has_signal(text, tid, (pid_t)tgid);
     return true;
 }
 

@@ -58,8 +58,10 @@ struct status {
     char name[16];
     struct ucred user, real; /* Their pid is the number of the process. The first is effective. */
     mode_t umask;
-    bool is_signalled;    /* A signal waits that is neither blocked nor ignored. */
 };
+
+/* Whether a signal waits for a thread that neither blocks nor ignores it. */
+enum signal_state { NO_SIGNAL, MAY_HAVE_SIGNAL, HAS_SIGNAL };
 
 struct process {
     pid_t tgid;           /* The host's number. 0 until it is known. */
@@ -215,6 +217,7 @@ const char *read_all(pid_t tid, const char *name);
 size_t read_numbers(const char *text, const char *name, uint32_t *out, size_t most);
 uint64_t read_capabilities(const char *text);
 bool read_status(pid_t tid, struct status *out);
+enum signal_state signal_for(pid_t tid, pid_t tgid);
 void refresh_process(struct process *process);
 void bind_process(struct process *process, pid_t tgid);
 struct process *process_by(pid_t tgid);

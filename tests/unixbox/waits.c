@@ -11,9 +11,10 @@
 #include <time.h>
 #include <unistd.h>
 
-enum { LONG = 300000, PAUSE = 50000, TIMEOUT = 100000, CHILDREN = 4 }; /* Bytes; microseconds. */
+enum { LONG = 300000, PAUSE = 50000, TIMEOUT = 100000, THREADS = 4 }; /* Bytes; microseconds. */
 
 static char bytes[LONG];
+static volatile sig_atomic_t signals;
 
 /* Starts a process that has the other end of a new pair. Returns this process's end, and -1 in the
  * new one. */
@@ -146,19 +147,53 @@ static void *wait_for_child(void *child) {
 /* SIGCHLD does nothing by default: where the first thread blocks it, it waits, but ends no calls of
  * the others. */
 static void check_children(void) {
-    pid_t children[CHILDREN];
-    pthread_t threads[CHILDREN];
+    pid_t children[THREADS];
+    pthread_t threads[THREADS];
     sigset_t all, old;
-    for (int i = 0; i < CHILDREN; i++) {
+    for (int i = 0; i < THREADS; i++) {
         children[i] = fork();
         if (children[i] == 0) _exit(usleep((useconds_t)(i + 1) * PAUSE) < 0);
         MUST(pthread_create(&threads[i], NULL, wait_for_child, &children[i]) == 0);
     }
     sigfillset(&all);
     MUST(pthread_sigmask(SIG_BLOCK, &all, &old) == 0);
-    for (int i = 0; i < CHILDREN; i++) MUST(pthread_join(threads[i], NULL) == 0);
+    for (int i = 0; i < THREADS; i++) MUST(pthread_join(threads[i], NULL) == 0);
     MUST(pthread_sigmask(SIG_SETMASK, &old, NULL) == 0);
-    printf("children: %d ended\n", CHILDREN);
+    printf("children: %d ended\n", THREADS);
+}
+
+/* Receives a byte, also where a signal comes, which may be another thread's. */
+static void *receive_byte(void *on) {
+    ssize_t got;
+    while ((got = recv(*(int *)on, &(char){0}, 1, 0)) < 0 && errno == EINTR) continue;
+    MUST(got == 1);
+    return NULL;
+}
+
+static void count(int number) {
+    (void)number;
+    signals++;
+}
+
+/* A signal that the first thread blocks is one other's, and all others receive. */
+static void check_threads(void) {
+    int pairs[THREADS][2];
+    pthread_t threads[THREADS];
+    sigset_t all, old;
+    MUST(sigaction(SIGUSR1, &(struct sigaction){.sa_handler = count}, NULL) == 0);
+    for (int i = 0; i < THREADS; i++) {
+        MUST(socketpair(AF_UNIX, SOCK_STREAM, 0, pairs[i]) == 0);
+        MUST(pthread_create(&threads[i], NULL, receive_byte, &pairs[i][0]) == 0);
+    }
+    sigfillset(&all);
+    MUST(pthread_sigmask(SIG_BLOCK, &all, &old) == 0);
+    MUST(usleep(PAUSE) == 0 && kill(getpid(), SIGUSR1) == 0 && usleep(2 * PAUSE) == 0);
+    printf("threads: %d signal", (int)signals);
+    for (int i = 0; i < THREADS; i++)
+        MUST(write(pairs[i][1], "x", 1) == 1 && pthread_join(threads[i], NULL) == 0);
+    MUST(pthread_sigmask(SIG_SETMASK, &old, NULL) == 0);
+    printf(", %d receive\n", THREADS);
+    for (int i = 0; i < THREADS; i++) MUST(close(pairs[i][0]) == 0 && close(pairs[i][1]) == 0);
 }
 
 int main(void) {
@@ -169,5 +204,6 @@ int main(void) {
     check_timeout();
     check_long();
     check_children();
+    check_threads();
     return 0;
 }
