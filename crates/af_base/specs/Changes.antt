@@ -78,7 +78,7 @@ listening b s = record s { state = state.Listening b }
 abbrev pub connected : ℕ → Socket → Socket
 connected f s = record s { state = state.Connected f }
 
--- Ends, of which the input is closed if this says so, and the output if that does (shutdown(2)).
+-- The ends with the input closed if `input` says so, and the output if `output` does (shutdown(2)).
 abbrev pub closed : Bool → Bool → Ends → Ends
 closed input output e = record {
   no_input = e.no_input || input;

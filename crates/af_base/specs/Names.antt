@@ -23,13 +23,13 @@ is_name_byte b = is_between 48 57 b || is_between 65 90 b || is_between 97 122 b
 abbrev pub is_name : List ℕ → Bool
 is_name bytes = is_between 1 MAX_NAME (length bytes) && list_all is_name_byte bytes
 
--- The set in which sockets of this type have their names: one name may stand in several sets. One
+-- The set in which sockets of this type have their names: several sets may have the same name. One
 -- set serves both types (unix(7), abstract; the one set is this project's profile).
 abbrev pub set_of : SockType → ℕ
 set_of Stream = 0
 set_of Seqpacket = 0
 
--- What the socket is bound to, if it has a name: the set, and the name (bind(2)).
+-- The set and the name that the socket is bound to, if it has a name (bind(2)).
 abbrev pub bound_to : Socket → Option (ℕ × List ℕ)
 bound_to s = option_map (λ name. (set_of s.kind, name)) s.name
 

@@ -31,7 +31,7 @@ AreMutual w = (f p : ℕ) → state_at w f ≡ state.Connected p → state_at w 
 abbrev pub name_at : World → ℕ → Option (List ℕ)
 name_at w f = option_and_then (λ s. s.name) (socket_at w f)
 
--- What the file f is bound to, if it is a socket that has a name: the set, and the name (bind(2)).
+-- The set and the name that the file f is bound to, if it is a socket that has one (bind(2)).
 abbrev pub bound_at : World → ℕ → Option (ℕ × List ℕ)
 bound_at w f = option_and_then bound_to (socket_at w f)
 

@@ -141,7 +141,7 @@ name_of x = option_and_then (λ s. s.name) (socket_of x)
 abbrev pub name_in : Map File → ℕ → Option (List ℕ)
 name_in files f = option_and_then (λ s. s.name) (socket_in files f)
 
--- What the file f of these is bound to: the set, and the name (bind(2)).
+-- The set and the name that the file f of these is bound to (bind(2)).
 abbrev pub bound_in : Map File → ℕ → Option (ℕ × List ℕ)
 bound_in files f = option_and_then bound_to (socket_in files f)
 

@@ -90,7 +90,7 @@ shutdown_closes_ends old new p n f how s settled stands is two h =
       led : new ≡ with_shut old f q how
       led = (settled_stays (with_shut old f q how) new (shut_settled old f q how settled)).0 done.1
 
--- What is closed besides is closed.
+-- An end that is closed besides is closed.
 or_closed : (a : Bool) → (a || true) ≡ true
 or_closed true = refl
 or_closed false = refl
@@ -127,7 +127,7 @@ nothing_is_sent_through_a_closed_end w p n f bytes attach s stands is talks vali
 
 pub shut_ends_stay_shut : ShutEndsStayShut
 shut_ends_stay_shut old new e r whole h f x y was is = have_event old.world.next_ino Shut lasts old new e r (allows e) (omega arith) before h f y (file_of_socket new.world f y is) refl where
-  -- What is closed of x is closed of the socket, if it is at the same number.
+  -- The ends closed of x are closed of the socket, if it is at the same number.
   Shut : ℕ → Socket → Type 0
   Shut k s = k ≡ f → StayShut x.ends s.ends
 

@@ -49,8 +49,8 @@ ShutdownNeverFails = (old new : World) (p n f : ℕ) (how : Shutdown) (s : Socke
 abbrev pub ends_at : World → ℕ → Option Ends
 ends_at w f = option_map (λ s. s.ends) (socket_at w f)
 
--- What a shutdown of the socket f, whose peer is q, closes: these ends of the socket, those of the
--- peer that they meet, and none of another.
+-- A shutdown of the socket f, whose peer is q, closes these ends of the socket, those of the peer
+-- that they meet, and none of another.
 pub record ClosesEnds (old new : World) (f q : ℕ) (how : Shutdown) : Type 0 where
   pub own : ends_at new f
       ≡ option_map (closed (closes_input how) (closes_output how)) (ends_at old f)
@@ -94,8 +94,8 @@ pub record ReceivesAlike (old new : World) (p n max_bytes max_fds : ℕ) : Type 
       → refusal new p (step.Recv n max_bytes max_fds)
       ≡ refusal old p (step.Recv n max_bytes max_fds)
 
--- What waits anywhere is received after a shutdown, of any kind and by any process, as it would
--- have been before it (shutdown(2)).
+-- After a shutdown, of any kind and by any process, a message that waits anywhere is received as it
+-- would have been before it (shutdown(2)).
 abbrev pub WhatWaitsIsReceivedAfterShutdown : Type 0
 WhatWaitsIsReceivedAfterShutdown =
     (old new : World) (p n : ℕ) (how : Shutdown) (r : Reply) → IsSettled old
@@ -111,7 +111,7 @@ ShutInputEnds = (w : World) (p n f max_bytes max_fds : ℕ) (s : Socket) → tab
     → (refusal w p (step.Recv n max_bytes max_fds) ≡ None)
     × (answer w p (step.Recv n max_bytes max_fds) ≡ reply.End)
 
--- A send of process p at n, where it has the socket s, is refused by EPIPE: if the output is closed,
+-- A send of process p at n, which is the socket s, is refused by EPIPE: if the output is closed,
 -- and if the input of the peer is, where it is not refused for its charge.
 pub record NothingIsSent (w : World) (p n : ℕ) (bytes attach : List ℕ) (s : Socket) : Type 0 where
   pub output : s.ends.no_output ≡ true → refusal w p (step.Send n bytes attach) ≡ Some EPIPE
