@@ -13,7 +13,7 @@ use Rattle.af_base.specs.Places.{Holds, backlog_of, contents, queue_of}
 use Rattle.af_base.specs.Counts.{count_in, refs}
 use Rattle.af_base.specs.Changes.{add_file}
 use Rattle.af_base.specs.Refusals.{is_full, is_listening, socket_of}
-use Rattle.af_base.specs.Steps.{connected_socket, idle_socket}
+use Rattle.af_base.specs.Steps.{connected_socket, idle_socket, paired_socket}
 use Rattle.af_base.specs.Whole.{IsWhole, IsWithin, bound_at, state_at, state_of}
 use Rattle.af_base.proofs.NewFiles.{fresh_file}
 use Rattle.af_base.proofs.Embryos.{waiting-add_file}
@@ -21,6 +21,7 @@ use Rattle.af_base.proofs.SocketNames.{bound_of, name-there, names-kept}
 use Rattle.af_base.proofs.Lookups.{insert-here, insert-other, none_some, same_or_not, some_same, told_apart}
 use Rattle.af_base.proofs.Pairs.{refs-add_file}
 use Rattle.af_base.proofs.SettledWorlds.{none_in}
+use Rattle.af_base.proofs.TypedFiles.{AreTyped, targets-typed, typed-added, typed-idle, typed-whole, types-typed}
 use Rattle.af_base.proofs.Sums.{total-insert}
 use Rattle.af_base.proofs.StaysWithin.{len-insert_most, neither, within-add_file}
 
@@ -37,6 +38,10 @@ blank-plain = record { empty = refl; none_waits = refl; unnamed = refl }
 -- So is a socket that was never connected.
 pub blank-idle : (kind : SockType) → IsBlank (AsSocket (idle_socket kind))
 blank-idle kind = record { empty = refl; none_waits = refl; unnamed = refl }
+
+-- So is a new one of a pair.
+pub blank-paired : (kind : SockType) (other : ℕ) → IsBlank (AsSocket (paired_socket kind other))
+blank-paired kind other = record { empty = refl; none_waits = refl; unnamed = refl }
 
 -- So is a new one that is connected.
 pub blank-connected : (kind : SockType) (peer : ℕ) → IsBlank (AsSocket (connected_socket kind peer))
@@ -108,9 +113,13 @@ module _ (w : World) (x : File) (blank : IsBlank x) where
     next_ino = omega arith;
     next_pid = k.next_pid;
     peers = λ f p e. state-blank idle k p ∙ k.peers f p (sym (state-blank idle k f) ∙ e);
+    targets = targets-typed new typed;
+    types = types-typed new typed;
     names = names-kept w new (λ f name e. name-blank f name e) k.names;
     embryos = λ f. let once = k.embryos f in omega (arith, once, waiting-add_file w x blank.none_waits f);
-  }
+  } where
+    typed : AreTyped new
+    typed = typed-added w x (typed-idle x idle) (typed-whole k)
 
   -- It has no place yet, and adds none.
   pub refs-blank : IsWhole w → (f : ℕ) → refs new f ≡ refs w f

@@ -1,7 +1,7 @@
 -- A socket that gets a name, listens, is connected to or accepts: the world stays whole and within
 -- the limits.
 use Rattle.std.proofs.Common.{◌≡◌, ◌<◌, ◌≤◌, ℕ, Bool, true, false, ◌⊎◌, inl, inr, List, [], ◌∷◌, ◌++◌, drop, length, refl, sym, ap, ◌∙◌, subst, cond, nat_eq, arith, length-append}
-use Rattle.std.specs.Prelude.{Some, is_some}
+use Rattle.std.specs.Prelude.{Some, is_some, not}
 use Rattle.std.specs.Option.{option_map_or}
 use Rattle.std.specs.List.{Contains, sum_by}
 use Rattle.std.specs.FinMap as map
@@ -15,7 +15,7 @@ use Rattle.af_base.specs.Places.{Holds, attached_in, contents, queue_of}
 use Rattle.af_base.specs.Counts.{one, waiting}
 use Rattle.af_base.specs.Changes.{dequeued, add_file, with_name, connected, listening, queued, shut, with_socket}
 use Rattle.af_base.specs.Names.{is_name, set_of}
-use Rattle.af_base.specs.Refusals.{is_full, room_of}
+use Rattle.af_base.specs.Refusals.{is_datagram, is_full, room_of}
 use Rattle.af_base.specs.Steps.{connected_socket, with_embryo}
 use Rattle.af_base.specs.Whole.{AreMutual, IsSocketWithin, IsWhole, IsWithin, bound_at, state_at, state_of}
 use Rattle.af_base.proofs.NewFiles.{fresh_file}
@@ -25,7 +25,8 @@ use Rattle.af_base.proofs.Lookups.{insert-other, same_or_not, some_same, told_ap
 use Rattle.af_base.proofs.PlaceMoves.{held-changed, live-changed, others-changed, state-others, state-there, there-changed, there-holds, total-changed}
 use Rattle.af_base.proofs.SocketNames.{name-changed, names-bound, names-changed, names-kept}
 use Rattle.af_base.proofs.BlankFiles.{blank-connected, blank-there, held-blank, live-blank, name-blank, still-blank, which-blank, within-blank}
-use Rattle.af_base.proofs.StaysWhole.{has_peer, mutual-changed, not_connected, once-changed, peer_or, whole-changed, whole-socket}
+use Rattle.af_base.proofs.StaysWhole.{has_peer, mutual-alone, mutual-changed, not_peer, once-changed, peer_or, whole-changed, whole-socket}
+use Rattle.af_base.proofs.TypedFiles.{AreTyped, targets-typed, typed-added, typed-aimless, typed-changed, typed-same, typed-whole, types-typed}
 use Rattle.af_base.proofs.StaysWithin.{socket_same, within-changed}
 
 -- A socket changed within its limits, in all but its queue.
@@ -38,7 +39,12 @@ pub whole-bound : (w : World) (s : ℕ) (given : List ℕ) (x : Socket)
     → map.get w.files s ≡ Some (AsSocket x)
     → ((f : ℕ) → ¬ (bound_at w f ≡ Some (set_of x.kind, given))) → IsWhole w
     → IsWhole (with_socket w s (with_name given))
-whole-bound w s given x at none k = whole-socket w s (with_name given) (λ x f is h. inl h) (mutual-changed w s (with_name given) (λ x. refl) k.peers) (names-bound w s given x at none k.names) (once-changed w s (with_name given) (λ x. refl) k.embryos) k
+whole-bound w s given x at none k =
+    whole-socket w s (with_name given) (λ x f is h. inl h)
+    (mutual-changed w s (with_name given) (λ x. refl) k.peers)
+    (typed-same w s (with_name given) (λ x. refl) (λ x. refl) (typed-whole k))
+    (names-bound w s given x at none k.names)
+    (once-changed w s (with_name given) (λ x. refl) k.embryos) k
 
 -- A socket that got a name.
 pub within-bound : (w : World) (s : ℕ) (given : List ℕ) (x : Socket) → IsWithin w → map.get w.files s ≡ Some (AsSocket x) → is_name given ≡ true → IsWithin (with_socket w s (with_name given))
@@ -51,27 +57,24 @@ within-bound w s given x k at fits = within-still w s (with_name given) x k at (
   messages = before.messages;
 })
 
--- Nobody is connected to a socket that is connected to nobody.
-not_peer : (w : World) (s f : ℕ) → AreMutual w → has_peer (state_at w s) ≡ false → ¬ (state_at w f ≡ state.Connected s)
-not_peer w s f pairs e is = not_connected (state_at w s) f e (pairs f s is)
+-- A socket that is found twice is for connections, if it is once.
+for_connections : (x y : Socket) → is_datagram x.kind ≡ false → Some (AsSocket x)
+    ≡ Some (AsSocket y) → not (is_datagram y.kind) ≡ true
+for_connections x y stream same =
+    ap (λ z. not (is_datagram z.kind)) (sym (socket_same x y (some_same _ _ same))) ∙ ap not stream
 
--- A socket that was never connected, and listens now.
-pub whole-listening : (w : World) (s b : ℕ) (x : Socket) → map.get w.files s ≡ Some (AsSocket x) → x.state ≡ state.Idle → IsWhole w → IsWhole (with_socket w s (listening b))
-whole-listening w s b x at idle k =
-    whole-socket w s (listening b) (λ y f is h. inl h) pairs (names-changed w s (listening b) (λ y. refl) k.names) (once-changed w s (listening b) (λ y. refl) k.embryos) k where
-      alone : has_peer (state_at w s) ≡ false
-      alone = ap has_peer (state-there w s (AsSocket x) at ∙ idle)
-
-      here : state_at (with_socket w s (listening b)) s ≡ state.Listening b
-      here = state-there (with_socket w s (listening b)) s (AsSocket (listening b x)) (there-changed w s (listening b) x at)
-
-      pairs : AreMutual (with_socket w s (listening b))
-      pairs f p e = elim (same_or_not f s) [
-        | inl same ↦ not_connected (state.Listening b) p refl (sym here ∙ ap (state_at (with_socket w s (listening b))) (sym same) ∙ e)
-        | inr apart ↦
-            let before : state_at w f ≡ state.Connected p = sym (state-others w s (listening b) f apart) ∙ e in
-            state-others w s (listening b) p (told_apart p s (λ same. not_peer w s f k.peers alone (before ∙ ap state.Connected same))) ∙ k.peers f p before
-      ]
+-- A socket for connections that was never connected, and listens now.
+pub whole-listening : (w : World) (s b : ℕ) (x : Socket) → map.get w.files s ≡ Some (AsSocket x)
+    → is_datagram x.kind ≡ false → x.state ≡ state.Idle → IsWhole w
+    → IsWhole (with_socket w s (listening b))
+whole-listening w s b x at stream idle k =
+    whole-socket w s (listening b) (λ y f is h. inl h)
+    (mutual-alone w s (listening b) x at (ap has_peer idle) refl k.peers)
+    (typed-changed w s (listening b)
+    (λ y is h. typed-aimless (AsSocket (listening b y)) (for_connections x y stream (sym at
+    ∙ is)) refl) (typed-whole k))
+    (names-changed w s (listening b) (λ y. refl) k.names)
+    (once-changed w s (listening b) (λ y. refl) k.embryos) k
 
 -- A socket that was never connected, and listens now, with room for one embryo at least.
 pub within-listening : (w : World) (s b : ℕ) (x : Socket) → IsWithin w → map.get w.files s ≡ Some (AsSocket x) → x.state ≡ state.Idle → 1 ≤ b → b ≤ MAX_BACKLOG → IsWithin (with_socket w s (listening b))
@@ -86,7 +89,9 @@ within-listening w s b x k at idle some low = within-still w s (listening b) x k
 
 -- A socket whose ends are closed.
 pub whole-shut : (w : World) (s : ℕ) (input output : Bool) → IsWhole w → IsWhole (with_socket w s (shut input output))
-whole-shut w s input output k = whole-changed w s (shut input output) (λ x. refl) (λ x. refl) (λ x. refl) (λ x f is h. inl h) k
+whole-shut w s input output k =
+    whole-changed w s (shut input output) (λ x. refl) (λ x. refl) (λ x. refl) (λ x. refl)
+    (λ x f is h. inl h) k
 
 -- A socket whose ends are closed.
 pub within-shut : (w : World) (s : ℕ) (input output : Bool) → IsWithin w → IsWithin (with_socket w s (shut input output))
@@ -114,23 +119,26 @@ within-connected w s p x k at idle = within-still w s (connected p) x k at (λ y
 
 -- A listener with an embryo more, which is live and waited nowhere.
 pub whole-queued : (w : World) (s n : ℕ) (x : Socket) → map.get w.files s ≡ Some (AsSocket x) → IsLive w n → waiting w n ≡ 0 → IsWhole w → IsWhole (with_socket w s (queued n))
-whole-queued w s n x at live none k = whole-socket w s (queued n) gain (mutual-changed w s (queued n) (λ y. refl) k.peers) (names-changed w s (queued n) (λ y. refl) k.names) once k where
-  gain : (y : Socket) (f : ℕ) → map.get w.files s ≡ Some (AsSocket y) → Contains (contents (AsSocket (queued n y))) f → Contains (contents (AsSocket y)) f ⊎ IsLive w f
-  gain y f is h = elim (Contains-append_cases (attached_in y.queue) (y.backlog ++ n ∷ []) f h) [
-    | inl z ↦ inl (Contains-append_left (attached_in y.queue) y.backlog f z)
-    | inr z ↦ elim (Contains-push_cases y.backlog n f z) [ inl b ↦ inl (Contains-append_right (attached_in y.queue) y.backlog f b) | inr b ↦ inr (subst (IsLive w) b live) ]
-  ]
+whole-queued w s n x at live none k =
+    whole-socket w s (queued n) gain (mutual-changed w s (queued n) (λ y. refl) k.peers)
+    (typed-same w s (queued n) (λ y. refl) (λ y. refl) (typed-whole k))
+    (names-changed w s (queued n) (λ y. refl) k.names) once k where
+      gain : (y : Socket) (f : ℕ) → map.get w.files s ≡ Some (AsSocket y) → Contains (contents (AsSocket (queued n y))) f → Contains (contents (AsSocket y)) f ⊎ IsLive w f
+      gain y f is h = elim (Contains-append_cases (attached_in y.queue) (y.backlog ++ n ∷ []) f h) [
+        | inl z ↦ inl (Contains-append_left (attached_in y.queue) y.backlog f z)
+        | inr z ↦ elim (Contains-push_cases y.backlog n f z) [ inl b ↦ inl (Contains-append_right (attached_in y.queue) y.backlog f b) | inr b ↦ inr (subst (IsLive w) b live) ]
+      ]
 
-  once : (f : ℕ) → waiting (with_socket w s (queued n)) f ≤ 1
-  once f = elim (same_or_not f n) [
-    | inl e ↦
-        let before : waiting w f ≡ 0 = ap (waiting w) e ∙ none in
-        omega (arith, before, one-most f n, waiting-queued w s n x at f)
-    | inr e ↦
-        let other : one f n ≡ 0 = ap {B = ℕ} (λ b. cond b 1 0) e in
-        let before = k.embryos f in
-        omega (arith, other, before, waiting-queued w s n x at f)
-  ]
+      once : (f : ℕ) → waiting (with_socket w s (queued n)) f ≤ 1
+      once f = elim (same_or_not f n) [
+        | inl e ↦
+            let before : waiting w f ≡ 0 = ap (waiting w) e ∙ none in
+            omega (arith, before, one-most f n, waiting-queued w s n x at f)
+        | inr e ↦
+            let other : one f n ≡ 0 = ap {B = ℕ} (λ b. cond b 1 0) e in
+            let before = k.embryos f in
+            omega (arith, other, before, waiting-queued w s n x at f)
+      ]
 
 -- A listener with room, and an embryo more.
 pub within-queued : (w : World) (s n : ℕ) (x : Socket) → IsWithin w → map.get w.files s ≡ Some (AsSocket x) → length x.backlog < room_of x.state → IsWithin (with_socket w s (queued n))
@@ -150,7 +158,10 @@ whole-accepted w s x at k = whole-socket w s dequeued
       | inl z ↦ Contains-append_left (attached_in y.queue) y.backlog f z
       | inr z ↦ Contains-append_right (attached_in y.queue) y.backlog f (Contains-dropped y.backlog f z)
     ]))
-    (mutual-changed w s dequeued (λ y. refl) k.peers) (names-changed w s dequeued (λ y. refl) k.names) (λ f. let once = k.embryos f in omega (arith, once, waiting-accepted w s x at f)) k
+    (mutual-changed w s dequeued (λ y. refl) k.peers)
+    (typed-same w s dequeued (λ y. refl) (λ y. refl) (typed-whole k))
+    (names-changed w s dequeued (λ y. refl) k.names) (λ f. let once = k.embryos f in
+    omega (arith, once, waiting-accepted w s x at f)) k
 
 -- A listener without its first embryo.
 pub within-accepted : (w : World) (s : ℕ) (x : Socket) → IsWithin w → map.get w.files s ≡ Some (AsSocket x) → IsWithin (with_socket w s dequeued)
@@ -265,9 +276,18 @@ module _ (w : World) (c : ℕ) (kind : SockType) (client : Socket) (k : IsWhole 
   pub still-made : (f : ℕ) → nat_eq f c ≡ false → IsLive w f → map.get made.files f ≡ map.get w.files f
   still-made f apart live = others-changed base c (connected n) f apart ∙ still-blank w (AsSocket embryo) (blank-connected kind c) k f live
 
+  -- The states of the client and of the embryo fit their types, where those are for connections.
+  typed-made : is_datagram client.kind ≡ false → is_datagram kind ≡ false → AreTyped made
+  typed-made stream same =
+      typed-changed base c (connected n)
+      (λ y is h. typed-aimless (AsSocket (connected n y))
+      (for_connections client y stream (sym client_in_base
+      ∙ is)) refl) (typed-added w (AsSocket embryo)
+      (typed-aimless (AsSocket embryo) (ap not same) refl) (typed-whole k))
+
   -- The client and the embryo are connected to each other, and the embryo has no place yet.
-  pub whole-made : IsWhole made
-  whole-made = record {
+  pub whole-made : is_datagram client.kind ≡ false → is_datagram kind ≡ false → IsWhole made
+  whole-made stream same = record {
     tables_live = λ f t. live_before f (k.tables_live f t);
     queues_live = λ q f h. live_before f (k.queues_live q f (held_was q f h));
     files_numbered = λ f live. elim (live_was f live) [
@@ -282,6 +302,8 @@ module _ (w : World) (c : ℕ) (kind : SockType) (client : Socket) (k : IsWhole 
     next_ino = omega arith;
     next_pid = k.next_pid;
     peers = mutual-made;
+    targets = targets-typed made (typed-made stream same);
+    types = types-typed made (typed-made stream same);
     names = names-kept w made (λ f name e. name-blank w (AsSocket embryo) (blank-connected kind c) f name (name-changed base c (connected n) (λ x. refl) f name e)) k.names;
     embryos = λ f. let once = k.embryos f in omega (arith, once, waiting-changed base c (connected n) (λ x. refl) f, waiting-add_file w (AsSocket embryo) refl f);
   }
@@ -302,9 +324,13 @@ module _ (w : World) (c l : ℕ) (kind : SockType) (client listener : Socket) (k
   listener_before = still-made w c kind client k client_there idle l apart (ap is_some listener_there) ∙ listener_there
 
   -- The client and the embryo are connected to each other, and the embryo waits at the listener.
-  pub whole-embryo : IsWhole (with_embryo w c l kind)
-  whole-embryo =
-      whole-queued before l w.next_ino listener listener_before (live-made w c kind client k client_there idle) (waiting-made w c kind client k client_there idle) (whole-made w c kind client k client_there idle)
+  pub whole-embryo : is_datagram client.kind ≡ false → is_datagram kind ≡ false
+      → IsWhole (with_embryo w c l kind)
+  whole-embryo stream same =
+      whole-queued before l w.next_ino listener listener_before
+      (live-made w c kind client k client_there idle)
+      (waiting-made w c kind client k client_there idle)
+      (whole-made w c kind client k client_there idle stream same)
 
   -- They are within the limits, where there is room for one file more and one embryo more.
   pub within-embryo : IsWithin w → is_full w 1 ≡ false → length listener.backlog < room_of listener.state → IsWithin (with_embryo w c l kind)

@@ -9,7 +9,7 @@ use Rattle.std.proofs.lemmas.Slice.Eq.{slice_eq-Decides}
 use denote.Enum.Bare.{same_true}
 use Rattle.af_base.specs.contracts.errno.Errno as errno
 use Rattle.af_base.specs.declared.events.Shutdown.TheVariants.{Both, Read, Write}
-use Rattle.af_base.specs.declared.events.SockType.TheVariants.{Seqpacket, Stream}
+use Rattle.af_base.specs.declared.events.SockType.TheVariants.{Dgram, Seqpacket, Stream}
 use Rattle.af_base.specs.declared.events.Step.{Step}
 use Rattle.af_base.specs.declared.events.Step.TheVariants as step
 use Rattle.af_base.specs.declared.events.Event.{Event}
@@ -52,8 +52,10 @@ step_same step.Fork step.Fork e = refl
 step_same step.Exit step.Exit e = refl
 step_same (step.Pair Stream) (step.Pair Stream) e = refl
 step_same (step.Pair Seqpacket) (step.Pair Seqpacket) e = refl
+step_same (step.Pair Dgram) (step.Pair Dgram) e = refl
 step_same (step.Socket Stream) (step.Socket Stream) e = refl
 step_same (step.Socket Seqpacket) (step.Socket Seqpacket) e = refl
+step_same (step.Socket Dgram) (step.Socket Dgram) e = refl
 step_same (step.Bind x z) (step.Bind y w) e = let h = both _ _ e in λ i. step.Bind (eqb-true x y h.0 i) (list_same z w h.1 i)
 step_same (step.Listen x z) (step.Listen y w) e = let h = both _ _ e in λ i. step.Listen (eqb-true x y h.0 i) (eqb-true z w h.1 i)
 step_same (step.Connect x z) (step.Connect y w) e = let h = both _ _ e in λ i. step.Connect (eqb-true x y h.0 i) (list_same z w h.1 i)
@@ -75,6 +77,7 @@ step_same (step.Shutdown x Read) (step.Shutdown y Read) e = ap (λ n. step.Shutd
 step_same (step.Shutdown x Write) (step.Shutdown y Write) e = ap (λ n. step.Shutdown n Write) (eqb-true x y (both _ _ e).0)
 step_same (step.Shutdown x Both) (step.Shutdown y Both) e = ap (λ n. step.Shutdown n Both) (eqb-true x y (both _ _ e).0)
 step_same (step.Shutdown x _) (step.Shutdown y _) e = absurd (false≢true (both _ _ e).1)
+step_same (step.Unconnect x) (step.Unconnect y) e = ap step.Unconnect (eqb-true x y e)
 step_same a b e = absurd (false≢true e)
 
 -- A step compares equal to itself.
@@ -87,8 +90,10 @@ step_itself step.Fork = refl
 step_itself step.Exit = refl
 step_itself (step.Pair Stream) = refl
 step_itself (step.Pair Seqpacket) = refl
+step_itself (step.Pair Dgram) = refl
 step_itself (step.Socket Stream) = refl
 step_itself (step.Socket Seqpacket) = refl
+step_itself (step.Socket Dgram) = refl
 step_itself (step.Bind x z) = each _ _ (number_itself x) (list_itself z)
 step_itself (step.Listen x z) = each _ _ (number_itself x) (number_itself z)
 step_itself (step.Connect x z) = each _ _ (number_itself x) (list_itself z)
@@ -100,6 +105,7 @@ step_itself (step.Limit x) = number_itself x
 step_itself (step.Shutdown x Read) = each _ _ (number_itself x) refl
 step_itself (step.Shutdown x Write) = each _ _ (number_itself x) refl
 step_itself (step.Shutdown x Both) = each _ _ (number_itself x) refl
+step_itself (step.Unconnect x) = number_itself x
 
 -- Events that compare equal are equal.
 pub event_same : (a b : Event) → event_eq.ghosts.eq a b ≡ true → a ≡ b

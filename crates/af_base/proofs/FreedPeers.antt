@@ -26,6 +26,7 @@ drop_with (state.Connected p) f m = change_at hang_up (map.remove m f) p
 drop_with state.Idle f m = map.remove m f
 drop_with (state.Listening b) f m = map.remove m f
 drop_with state.HungUp f m = map.remove m f
+drop_with (state.Sends q) f m = map.remove m f
 
 -- Whether q is the peer in this state.
 abbrev pub is_peer : State → ℕ → Bool
@@ -33,6 +34,7 @@ is_peer (state.Connected p) q = eq_by_cmp nat_cmp q p
 is_peer state.Idle q = false
 is_peer (state.Listening b) q = false
 is_peer state.HungUp q = false
+is_peer (state.Sends p) q = false
 
 -- To map a file to itself changes nothing.
 same : (o : Option File) → o ≡ option_map (λ x. x) o
@@ -45,6 +47,7 @@ get-drop_with (state.Connected p) f m q = get-change_at hang_up (map.remove m f)
 get-drop_with state.Idle f m q = map.get-remove nat_cmp_total m f q ∙ same _
 get-drop_with (state.Listening b) f m q = map.get-remove nat_cmp_total m f q ∙ same _
 get-drop_with state.HungUp f m q = map.get-remove nat_cmp_total m f q ∙ same _
+get-drop_with (state.Sends p) f m q = map.get-remove nat_cmp_total m f q ∙ same _
 
 -- The peer that a state names is the one that it is connected to.
 peer_is : (t : State) (q : ℕ) → is_peer t q ≡ true → t ≡ state.Connected q
@@ -52,6 +55,7 @@ peer_is (state.Connected p) q e = ap state.Connected (sym (eqb-true q p (sym (un
 peer_is state.Idle q e = absurd (false≢true e)
 peer_is (state.Listening b) q e = absurd (false≢true e)
 peer_is state.HungUp q e = absurd (false≢true e)
+peer_is (state.Sends p) q e = absurd (false≢true e)
 
 module _ (w : World) (f : ℕ) (pairs : AreMutual w) where
   -- The state that a socket has then.
@@ -71,6 +75,7 @@ module _ (w : World) (f : ℕ) (pairs : AreMutual w) where
     by state.Idle r = refl
     by (state.Listening b) r = refl
     by state.HungUp r = refl
+    by (state.Sends p) r = refl
     by (state.Connected p) r = apart p r (nat_eq f p) refl
 
   -- To free one file removes it and hangs up its peer.

@@ -15,6 +15,7 @@ pub mod CountSums
 pub mod NothingInFlight
 pub mod FreedCounts
 pub mod PlaceMoves
+pub mod TypedFiles
 pub mod SocketNames
 pub mod Embryos
 pub mod ReceivedFiles
@@ -32,6 +33,7 @@ pub mod ProcessLimits
 pub mod ReplacedDescriptors
 pub mod Soundness
 pub mod HeldFiles
+pub mod Datagrams
 pub mod StepChanges
 pub mod SoundSteps
 pub mod TreeEntries

@@ -48,6 +48,8 @@ whole-add_user w u k = by (list_any (nat_eq u) w.users) where
     next_ino = k.next_ino;
     next_pid = k.next_pid;
     peers = k.peers;
+    targets = k.targets;
+    types = k.types;
     names = k.names;
     embryos = k.embryos;
   }
@@ -71,6 +73,8 @@ whole-add_process w q k live = record {
   next_ino = k.next_ino;
   next_pid = omega arith;
   peers = k.peers;
+  targets = k.targets;
+  types = k.types;
   names = k.names;
   embryos = k.embryos;
 }

@@ -38,6 +38,8 @@ module _ (w : World) (p : ℕ) where
     next_ino = k.next_ino;
     next_pid = k.next_pid;
     peers = k.peers;
+    targets = k.targets;
+    types = k.types;
     names = k.names;
     embryos = k.embryos;
   } where

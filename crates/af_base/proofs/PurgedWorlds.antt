@@ -21,6 +21,7 @@ use Rattle.af_base.proofs.SocketNames.{bound_of, name-there, named-there, names-
 use Rattle.af_base.proofs.PurgeOrder.{from_emptied, get-emptied, live-emptied}
 use Rattle.af_base.proofs.Soundness.{sound-settles}
 use Rattle.af_base.proofs.Totals.{total-below, total-count}
+use Rattle.af_base.proofs.TypedFiles.{AreTyped, IsTyped, targets-typed, typed-like, typed-whole, types-typed}
 use Rattle.af_base.proofs.StaysWithin.{socket_same}
 
 module _ (t : ℕ → Bool) (w : World) where
@@ -60,6 +61,8 @@ module _ (t : ℕ → Bool) (w : World) where
     next_ino = k.next_ino;
     next_pid = k.next_pid;
     peers = λ f p e. state_at-emptied p ∙ k.peers f p (sym (state_at-emptied f) ∙ e);
+    targets = targets-typed (emptied t w) typed;
+    types = types-typed (emptied t w) typed;
     names = names-kept w (emptied t w) (λ f name e.
         let new = named-there (emptied t w) f name e in
         let was = emptied-was f new.0 new.1 in
@@ -69,6 +72,16 @@ module _ (t : ℕ → Bool) (w : World) where
         let less = fewer (λ x. count_in f (backlog_of x)) (λ x. no_more f x) in
         omega (arith, once, less);
   } where
+    typed : AreTyped (emptied t w)
+    typed f y is =
+        let was = emptied-was f y is in
+        subst (IsTyped w.next_ino) was.2 (by (t f) was.0 (typed-whole k f was.0 was.1)) where
+          by : (b : Bool) (x : File) → IsTyped w.next_ino x
+              → IsTyped w.next_ino (if b then empty_file x else x)
+          by true Plain h = h
+          by true (AsSocket s) h = typed-like (AsSocket s) (empty_file (AsSocket s)) refl refl h
+          by false x h = h
+
     same_name : (b : Bool) (x : File) → bound_of (if b then empty_file x else x) ≡ bound_of x
     same_name true Plain = refl
     same_name true (AsSocket s) = refl

@@ -7,7 +7,7 @@ use Rattle.std.proofs.lemmas.Bool.{cases_Bool, leb-false, leb-true, lt-leb, ltb-
 use Rattle.std.proofs.lemmas.List.{length-append, length-drop}
 use Rattle.std.proofs.lemmas.List.Elements.{Contains-append_cases, Contains-append_left, Contains-append_right}
 use Rattle.af_base.specs.declared.events.SockType.{SockType}
-use Rattle.af_base.specs.declared.events.SockType.TheVariants.{Seqpacket, Stream}
+use Rattle.af_base.specs.declared.events.SockType.TheVariants.{Dgram, Seqpacket, Stream}
 use Rattle.af_base.specs.World.{Message}
 use Rattle.af_base.specs.Places.{attached_in}
 use Rattle.af_base.specs.Take.{TakeResult, cut, has_files, joined, take_from, take_stream, take_to}
@@ -210,6 +210,9 @@ leaves-taken Stream q n k = record { carried = stream-files q n (have-bytes q k)
   within (Some m) = within-cut _ q k
 leaves-taken Seqpacket [] n k = record { carried = refl; fewer = omega arith; within = k }
 leaves-taken Seqpacket (m ∷ q) n k = record { carried = refl; fewer = omega arith; within = λ x h. k x (Contains-later m q x h) }
+leaves-taken Dgram [] n k = record { carried = refl; fewer = omega arith; within = k }
+leaves-taken Dgram (m ∷ q) n k =
+    record { carried = refl; fewer = omega arith; within = λ x h. k x (Contains-later m q x h) }
 
 -- The first message taken.
 pub leaves-first : (q : List Message) (m : Message) (rest : List Message) → AreWithin q → q ≡ m ∷ rest → Leaves q m.attached rest
@@ -241,6 +244,8 @@ cut-carried c (m ∷ q) f h = by (cut-carried (c - length m.bytes) q f) (nat_le 
 pub taken-before : (kind : SockType) (q : List Message) (n f : ℕ) → Contains ((take_from kind q n).attached ++ attached_in (take_from kind q n).rest) f → Contains (attached_in q) f
 taken-before Seqpacket [] n f h = h
 taken-before Seqpacket (m ∷ q) n f h = h
+taken-before Dgram [] n f h = h
+taken-before Dgram (m ∷ q) n f h = h
 taken-before Stream q n f h = by (find has_files q) refl h where
   one : (m : Message) → find has_files q ≡ Some m → (b : Bool) → Contains (cond b m.attached []) f → Contains (attached_in q) f
   one m e true z = found-carried q m f e z

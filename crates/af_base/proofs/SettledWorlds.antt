@@ -49,6 +49,7 @@ same_file (AsSocket s) = ap (λ t. AsSocket (record s { state = t })) (same_stat
   same_state (state.Listening b) = refl
   same_state (state.Connected p) = refl
   same_state state.HungUp = refl
+  same_state (state.Sends q) = refl
 
 -- A world without the files of an empty set is as it was.
 pub without_none : (w : World) → without (λ _. false) w ≡ w
@@ -127,6 +128,7 @@ without-without g h w = ap (λ fs. record w { files = fs }) (map.same_map nat_cm
         after (state.Listening b) = refl
         after (state.Connected p) = peer p (g p) (h p) refl
         after state.HungUp = refl
+        after (state.Sends q) = refl
 
       each : (a b : Bool) (o : Option File) → cond (not b) (option_map (file_without h) (cond (not a) (option_map (file_without g) o) None)) None ≡ cond (not (a || b)) (option_map (file_without (λ f. g f || h f)) o) None
       each true true o = refl

@@ -1,6 +1,6 @@
 -- Each step of a process, and each start of one, leaves the world sound.
 use Rattle.std.proofs.Common.{◌≡◌, ◌<◌, ◌≤◌, ℕ, zero, suc, ◌+◌, Bool, true, false, not, ◌&&◌, inl, inr, List, [], ◌∷◌, ◌++◌, length, refl, sym, ap, ◌∙◌, subst, nat_eq, arith}
-use Rattle.std.specs.Prelude.{◌||◌, Option, Some, None, is_some, is_none, unwrap_or, filter_map, nat_le, slice_get, if◌then◌else◌, ⊤}
+use Rattle.std.specs.Prelude.{Option, Some, None, is_some, is_none, unwrap_or, filter_map, nat_le, slice_get, if◌then◌else◌, ⊤}
 use Rattle.std.specs.Option.{option_and_then, option_map_or, option_or}
 use Rattle.std.specs.List.{Contains, cons_option}
 use Rattle.std.specs.Ordering.{nat_cmp}
@@ -19,20 +19,21 @@ use Rattle.af_base.specs.declared.limits.TheConstants.{MAX_BACKLOG, MAX_BYTES, M
 use Rattle.af_base.specs.World.{AsSocket, File, IsLive, Plain, Process, Socket, World}
 use Rattle.af_base.specs.Places.{InTable, attached_in, contents, queue_at, queue_of, table_at}
 use Rattle.af_base.specs.Counts.{total}
-use Rattle.af_base.specs.Changes.{dequeued, add_file, install, with_queue}
+use Rattle.af_base.specs.Changes.{aimed, dequeued, add_file, install, with_queue, with_socket}
 use Rattle.af_base.specs.Names.{named, set_of}
 use Rattle.af_base.specs.Reached.{ByTable, BySocket}
-use Rattle.af_base.specs.Refusals.{RefusalRow, first_fit, ino_named, ino_on, is_connected, is_hung_up, is_listening, is_short, no_process, no_socket, peer_of, process_at, refusal, room_of, socket_at, socket_named, socket_of, socket_on, spawn_refusal, spawn_row, step_row}
-use Rattle.af_base.specs.Steps.{Outcome, ProcessStep, SpawnStep, answer, closes_input, closes_output, effect, first_embryo, free_at, got_at, idle_socket, needs_no_memory, spawned, taken_on, with_pair}
+use Rattle.af_base.specs.Refusals.{RefusalRow, connected_to, first_fit, ino_named, ino_on, is_connected, is_datagram, is_listening, is_short, no_process, no_socket, on_files, on_listener, on_target, peer_of, process_at, refusal, room_of, socket_at, socket_named, socket_of, socket_on, spawn_refusal, spawn_row, step_row, target_named}
+use Rattle.af_base.specs.Steps.{Outcome, ProcessStep, SpawnStep, answer, closes_input, closes_output, effect, first_embryo, free_at, got_at, idle_socket, needs_no_memory, spawned, taken_on, with_embryo, with_pair}
 use Rattle.af_base.specs.Table.{free_numbers}
 use Rattle.af_base.specs.Take.{TakeResult}
-use Rattle.af_base.specs.Whole.{IsSound, IsWhole, state_at, state_of}
-use Rattle.af_base.proofs.StepChanges.{Changed, IsKnown, changed-accept, changed-embryo, changed-exit, changed-install, changed-installs, changed-limit, changed-listen, changed-name, changed-pair, changed-plain, changed-process, changed-push, changed-shut, changed-socket, changed-take, changed-uninstall, changed-user, unchanged}
+use Rattle.af_base.specs.Whole.{IsSound, IsWhole, fits_type, state_at, state_of}
+use Rattle.af_base.proofs.StepChanges.{Changed, IsKnown, changed-accept, changed-aimed, changed-embryo, changed-exit, changed-install, changed-installs, changed-limit, changed-listen, changed-name, changed-pair, changed-plain, changed-process, changed-push, changed-shut, changed-socket, changed-take, changed-uninstall, changed-user, unchanged}
 use Rattle.af_base.proofs.Elements.{Contains-first, Contains-none, Contains-rest}
 use Rattle.af_base.proofs.Free.{free-free_numbers, free-lowest_free}
 use Rattle.af_base.proofs.Lookups.{insert-here, none_some, not_same, same_or_not, some_same, told_apart}
 use Rattle.af_base.proofs.PlaceMoves.{live-changed, there-holds, there-install, there-table}
 use Rattle.af_base.proofs.Pairs.{first_there, second_there}
+use Rattle.af_base.proofs.Datagrams.{listens-stream}
 use Rattle.af_base.proofs.DerivedEquality.{both}
 use Rattle.af_base.proofs.Soundness.{sound-settles}
 use Rattle.af_base.proofs.ReceivedFiles.{taken-before}
@@ -93,21 +94,14 @@ goes-on rows more e is = joined rows more ∙ ap (λ o. option_or o (first_fit m
 pub passes-on : (rows more : RefusalRow) → first_fit rows ≡ None → first_fit (rows ++ more) ≡ first_fit more
 passes-on rows more is = joined rows more ∙ ap (λ o. option_or o (first_fit more)) is
 
--- A socket that can talk to its peer is connected to it.
-pub connected-to : {More : Type 0} (s : Socket) → Passed (not (is_connected s.state)) (Passed (is_hung_up s.state || s.ends.no_output) More) → s.state ≡ state.Connected (peer_of s.state)
-connected-to s tests = by s.state tests.here (neither _ _ tests.rest.here).0 where
-  by : (t : State) → not (is_connected t) ≡ false → is_hung_up t ≡ false → t ≡ state.Connected (peer_of t)
-  by state.Idle e d = absurd (false≢true (sym e))
-  by (state.Listening b) e d = absurd (false≢true (sym e))
-  by (state.Connected p) e d = refl
-  by state.HungUp e d = absurd (false≢true (sym d))
-
--- A socket that was never connected and does not listen is idle.
-pub never-connected : (t : State) → is_connected t ≡ false → is_listening t ≡ false → t ≡ state.Idle
-never-connected state.Idle e d = refl
-never-connected (state.Listening b) e d = absurd (false≢true (sym d))
-never-connected (state.Connected p) e d = absurd (false≢true (sym e))
-never-connected state.HungUp e d = absurd (false≢true (sym e))
+-- A socket for connections that was never connected and does not listen is idle.
+pub never-connected : (kind : SockType) (t : State) → is_datagram kind ≡ false → fits_type kind t
+    ≡ true → is_connected t ≡ false → is_listening t ≡ false → t ≡ state.Idle
+never-connected kind state.Idle stream fits e d = refl
+never-connected kind (state.Listening b) stream fits e d = absurd (false≢true (sym d))
+never-connected kind (state.Connected p) stream fits e d = absurd (false≢true (sym e))
+never-connected kind state.HungUp stream fits e d = absurd (false≢true (sym e))
+never-connected kind (state.Sends q) stream fits e d = absurd (false≢true (sym stream ∙ fits))
 
 -- Where the denial of a test does not fit, the test does.
 holds : {b : Bool} → not b ≡ false → b ≡ true
@@ -132,6 +126,25 @@ listener-there w kind name = by (named w.files (set_of kind) name) where
   by : (t : Option ℕ) → not (is_listening (unwrap_or (option_and_then (socket_at w) t) no_socket).state) ≡ false → map.get w.files (unwrap_or t 0) ≡ Some (AsSocket (unwrap_or (option_and_then (socket_at w) t) no_socket))
   by None e = absurd (false≢true (sym e))
   by (Some f) e = at (map.get w.files f) e
+
+-- A file that is a socket is there.
+pub target-there : (w : World) (q : ℕ) → is_none (socket_at w q) ≡ false → (x : Socket)
+    × (map.get w.files q ≡ Some (AsSocket x))
+target-there w q = by (map.get w.files q) refl where
+  by : (o : Option File) → map.get w.files q ≡ o → is_none (option_and_then socket_of o) ≡ false
+      → (x : Socket) × (map.get w.files q ≡ Some (AsSocket x))
+  by None e d = absurd (false≢true (sym d))
+  by (Some Plain) e d = absurd (false≢true (sym d))
+  by (Some (AsSocket x)) e d = (x, e)
+
+-- A name that gives a socket gives a number that was given out.
+pub named-given : (w : World) (kind : SockType) (name : List ℕ) → IsWhole w
+    → is_none (target_named w kind name) ≡ false → ino_named w kind name < w.next_ino
+named-given w kind name k = by (named w.files (set_of kind) name) where
+  by : (t : Option ℕ) → is_none (option_and_then (socket_at w) t) ≡ false
+      → unwrap_or t 0 < w.next_ino
+  by None e = absurd (false≢true (sym e))
+  by (Some f) e = k.files_numbered f (ap is_some (target-there w f e).1)
 
 -- A connected file is a socket.
 pub connected-socket : (w : World) (f p : ℕ) → state_at w f ≡ state.Connected p → (x : Socket) × (map.get w.files f ≡ Some (AsSocket x))
@@ -195,6 +208,11 @@ module _ (w : World) (p : ℕ) (whole : IsWhole w) (at : map.get w.processes p �
       let holds = there-holds w (ino_on w p n) f (AsSocket (socket_on w p n)) is h in
       (whole.queues_live (ino_on w p n) f holds, inl (BySocket (ino_on w p n) f (ByTable (ino_on w p n) (p, n, number-there w p n there)) holds))
 
+  -- The state of a socket fits its type.
+  fits : (f : ℕ) (s : Socket) → map.get w.files f ≡ Some (AsSocket s) → fits_type s.kind s.state
+      ≡ true
+  fits f s is = whole.types f s (ap (option_and_then socket_of) is)
+
   -- A file more, with a number.
   opens : (x : File) → is_short q 1 ≡ false → Changed w (add_file w x) → Changed w (install (add_file w x) p (free_at w p 0) w.next_ino)
   opens x some c = changed-install c p (free_at w p 0) w.next_ino q at (lowest-low some) (ap is_some (insert-here w.files w.next_ino x)) (inr (omega arith))
@@ -230,28 +248,57 @@ module _ (w : World) (p : ℕ) (whole : IsWhole w) (at : map.get w.processes p �
   -- A socket that listens.
   listens : (n b : ℕ) → NoneFits (step_row w p (step.Listen n b)) → Changed w (effect w p (step.Listen n b))
   listens n b row =
-      let parts = neither _ _ row.rest.rest.here in
+      let s = socket_on w p n in
+      let stream = row.rest.rest.here in
+      let parts = neither _ _ row.rest.rest.rest.here in
       let quiet = neither _ _ parts.0 in
       let unconnected = neither _ _ quiet.0 in
       let low = both (nat_le 1 b) (nat_le b MAX_BACKLOG) (holds parts.1) in
-      changed-listen (unchanged w) (ino_on w p n) b (socket_on w p n) (socket-there w p n row.here row.rest.here) (never-connected (socket_on w p n).state unconnected.1 quiet.1) (leb-true 1 b low.0) (leb-true b MAX_BACKLOG low.1)
-
-  -- A client and its embryo.
-  connects : (n : ℕ) (name : List ℕ) → NoneFits (step_row w p (step.Connect n name)) → Changed w (effect w p (step.Connect n name))
-  connects n name row =
-      let s = socket_on w p n in
-      let l = ino_named w s.kind name in
-      let listener = socket_named w s.kind name in
       let there = socket-there w p n row.here row.rest.here in
-      let deaf = row.rest.rest in
-      let heard = deaf.rest.rest in
-      let listens = (neither _ _ heard.here).0 in
-      let listener_is = listener-there w s.kind name listens in
-      let room = heard.rest.rest in
-      let apart = told_apart l (ino_on w p n) (λ same.
-      let one_socket : listener ≡ s = socket_same listener s (some_same _ _ (sym listener_is ∙ ap (map.get w.files) same ∙ there)) in
-      false≢true (sym deaf.here ∙ ap (λ x. is_listening x.state) (sym one_socket) ∙ holds listens)) in
-      changed-embryo (unchanged w) (ino_on w p n) l listener.kind s listener there (never-connected s.state deaf.rest.here deaf.here) listener_is apart room.rest.here (leb-false (room_of listener.state) (length listener.backlog) room.here) (omega arith)
+      changed-listen (unchanged w) (ino_on w p n) b s there stream
+      (never-connected s.kind s.state stream (fits (ino_on w p n) s there) unconnected.1
+      quiet.1) (leb-true 1 b low.0) (leb-true b MAX_BACKLOG low.1)
+
+  -- A client and its embryo, or a datagram socket with its target.
+  connects : (n : ℕ) (name : List ℕ) → NoneFits (step_row w p (step.Connect n name)) → Changed w (effect w p (step.Connect n name))
+  connects n name row = by (is_datagram s.kind) refl row.rest.rest.rest.rest where
+    s : Socket
+    s = socket_on w p n
+
+    l : ℕ
+    l = ino_named w s.kind name
+
+    listener : Socket
+    listener = socket_named w s.kind name
+
+    there : map.get w.files (ino_on w p n) ≡ Some (AsSocket s)
+    there = socket-there w p n row.here row.rest.here
+
+    by : (b : Bool) → is_datagram s.kind ≡ b
+        → NoneFits (if b then on_target (ino_on w p n) (target_named w s.kind name) else
+        on_listener listener s.kind ++ on_files w 1)
+        → Changed w (if b then with_socket w (ino_on w p n) (aimed l) else with_embryo w
+        (ino_on w p n) l listener.kind)
+    by true datagram more =
+        changed-aimed (unchanged w) (ino_on w p n) l s there datagram
+        (λ k. named-given w s.kind name k more.here)
+    by false stream more =
+        let deaf = row.rest.rest in
+        let listens = (neither _ _ more.here).0 in
+        let listener_is = listener-there w s.kind name listens in
+        let room = more.rest.rest in
+        let apart = told_apart l (ino_on w p n) (λ same.
+        let one_socket : listener ≡ s =
+        socket_same listener s (some_same _ _ (sym listener_is ∙ ap (map.get w.files) same
+        ∙ there)) in
+        false≢true (sym deaf.here ∙ ap (λ x. is_listening x.state) (sym one_socket)
+        ∙ holds listens)) in
+        changed-embryo (unchanged w) (ino_on w p n) l listener.kind s listener there
+        (never-connected s.kind s.state stream (fits (ino_on w p n) s there) deaf.rest.here
+        deaf.here) stream (listens-stream listener.kind listener.state
+        (fits l listener listener_is) (holds listens))
+        listener_is apart room.rest.here
+        (leb-false (room_of listener.state) (length listener.backlog) room.here) (omega arith)
 
   -- An embryo accepted.
   accepts : (n : ℕ) → NoneFits (step_row w p (step.Accept n)) → Changed w (effect w p (step.Accept n))
@@ -259,7 +306,7 @@ module _ (w : World) (p : ℕ) (whole : IsWhole w) (at : map.get w.processes p �
       let s = socket_on w p n in
       let f = ino_on w p n in
       let there = socket-there w p n row.here row.rest.here in
-      let waits = row.rest.rest.rest in
+      let waits = row.rest.rest.rest.rest in
       let first = held-on n (first_embryo w p n) row.here there (Contains-append_right (attached_in s.queue) s.backlog (first_embryo w p n) (first-waits s.backlog waits.here)) in
       changed-install (changed-accept (unchanged w) f s there) p (free_at w p 0) (first_embryo w p n) q at (lowest-low waits.rest.here) (live-changed w f dequeued (first_embryo w p n) ∙ first.0) first.1
 
@@ -267,12 +314,10 @@ module _ (w : World) (p : ℕ) (whole : IsWhole w) (at : map.get w.processes p �
   sends : (n : ℕ) (bytes attach : List ℕ) → NoneFits (step_row w p (step.Send n bytes attach)) → Changed w (effect w p (step.Send n bytes attach))
   sends n bytes attach given =
       let numbers = given.rest.rest in
-      let connected = numbers.rest.rest.rest in
-      let room = connected.rest.rest.rest in
-      let f = ino_on w p n in
+      let target = numbers.rest.rest.rest.rest.rest.rest in
+      let room = target.rest.rest.rest in
       let s = socket_on w p n in
-      let to : state_at w f ≡ state.Connected (peer_of s.state) = ap (λ o. option_map_or state_of o state.Idle) (socket-there w p n given.here given.rest.here) ∙ connected-to s connected in
-      let peer = connected-socket w (peer_of s.state) f (whole.peers f (peer_of s.state) to) in
+      let peer = target-there w (peer_of s.state) target.here in
       let some = neither _ _ numbers.here in
       let few = attached-most w p attach in
       let low = ltb-false SCM_MAX_FD (length attach) some.1 in
@@ -325,7 +370,13 @@ module _ (w : World) (p : ℕ) (whole : IsWhole w) (at : map.get w.processes p �
   changes-row (step.Recv n max_bytes max_fds) row = receives n max_bytes max_fds row
   changes-row (step.Peek n max_bytes max_fds) row = peeks n max_bytes max_fds row
   changes-row (step.Limit n) row = changed-limit (unchanged w) p n (ltb-false MAX_NOFILE n row.here)
-  changes-row (step.Shutdown n how) row = changed-shut (changed-shut (unchanged w) (ino_on w p n) (closes_input how) (closes_output how)) (peer_of (socket_on w p n).state) (closes_output how) (closes_input how)
+  changes-row (step.Shutdown n how) row =
+      changed-shut (changed-shut (unchanged w) (ino_on w p n) (closes_input how)
+      (closes_output how)) (connected_to (socket_on w p n).state) (closes_output how)
+      (closes_input how)
+  changes-row (step.Unconnect n) row =
+      changed-aimed (unchanged w) (ino_on w p n) 0 (socket_on w p n)
+      (socket-there w p n row.here row.rest.here) (holds row.rest.rest.here) (λ k. k.next_ino)
 
 -- The change of a step that is not refused, before the world settles.
 pub effect-changes : (w : World) (p : ℕ) (s : Step) → IsWhole w → refusal w p s ≡ None → Changed w (effect w p s)

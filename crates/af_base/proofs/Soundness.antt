@@ -18,6 +18,7 @@ use Rattle.af_base.proofs.PlaceMoves.{holds-there, table-there}
 use Rattle.af_base.proofs.SocketNames.{named-there}
 use Rattle.af_base.proofs.SettledWorlds.{live-without, stays, to_without}
 use Rattle.af_base.proofs.StaysWhole.{not_connected, whole-settles}
+use Rattle.af_base.proofs.TypedFiles.{AreTyped, targets-typed, types-typed}
 use Rattle.af_base.proofs.StaysWithin.{within-settles}
 
 -- A world that was settled by definition is settled.
@@ -55,9 +56,13 @@ fresh_whole = record {
   next_ino = omega arith;
   next_pid = omega arith;
   peers = λ f p e. not_connected state.Idle p refl (sym (ap (λ o. option_map_or state_of o state.Idle) (no_file f)) ∙ e);
+  targets = targets-typed empty_world typed;
+  types = types-typed empty_world typed;
   names = λ f g name e d. let at = named-there empty_world f name e in absurd (none_some at.0 (sym (no_file f) ∙ at.1));
   embryos = λ f. omega (arith, total-empty (λ x. count_in f (backlog_of x)));
-}
+} where
+  typed : AreTyped empty_world
+  typed f x is = absurd (none_some x (sym (no_file f) ∙ is))
 
 -- The world is within the limits at first.
 fresh_within : IsWithin empty_world

@@ -9,6 +9,7 @@ use Rattle.std.proofs.lemmas.Bool.{false≢true, leb-false, ltb-false}
 use Rattle.std.proofs.lemmas.List.Elements.{Contains-push_cases}
 use Rattle.std.proofs.lemmas.List.Sums.{sum_by-cons, sum_by_push}
 use Rattle.af_base.specs.declared.events.SockType.{SockType}
+use Rattle.af_base.specs.declared.events.SockType.TheVariants.{Dgram, Seqpacket, Stream}
 use Rattle.af_base.specs.declared.events.State.{State}
 use Rattle.af_base.specs.declared.events.State.TheVariants as state
 use Rattle.af_base.specs.declared.limits.TheConstants.{MAX_PROCESSES, MAX_NOFILE, MAX_FILES, MAX_MESSAGES, MAX_BACKLOG, MAX_INFLIGHT, MAX_PID, MAX_INO}
@@ -18,7 +19,7 @@ use Rattle.af_base.specs.Counts.{total, total_of}
 use Rattle.af_base.specs.Unheld.{Settles, file_without, state_without, without}
 use Rattle.af_base.specs.Changes.{add_file, add_process, add_user, change_at, file_with, install, push_message, uninstall, with_queue, with_socket}
 use Rattle.af_base.specs.Refusals.{is_at_process_limit, is_full, is_listening, room_of, socket_of}
-use Rattle.af_base.specs.Steps.{connected_socket, spawned, with_pair}
+use Rattle.af_base.specs.Steps.{paired_socket, paired_state, spawned, with_pair}
 use Rattle.af_base.specs.Whole.{IsMessageWithin, IsProcessWithin, IsSocketWithin, IsWithin}
 use Rattle.af_base.proofs.FreedCounts.{same_queue, without-was}
 use Rattle.af_base.proofs.Elements.{Contains-none}
@@ -204,11 +205,12 @@ pub within-spawned : (w : World) (uid nofile : ℕ) (privileged : Bool) → IsWi
 within-spawned w uid nofile privileged k room low = within-add_user _ uid (within-add_process w _ k room (record { limit = low; numbers = λ n l. absurd (false≢true (sym (ap is_some (map.get-empty nat_cmp n)) ∙ l)) }))
 
 -- A socket that does not listen has room for no embryo.
-no_room : (t : State) → is_listening t ≡ false → room_of t ≡ 0
+pub no_room : (t : State) → is_listening t ≡ false → room_of t ≡ 0
 no_room state.Idle e = refl
 no_room (state.Listening b) e = absurd (false≢true (sym e))
 no_room (state.Connected p) e = refl
 no_room state.HungUp e = refl
+no_room (state.Sends q) e = refl
 
 -- A socket more with nothing in it, which does not listen and has no name, where there is room for
 -- one.
@@ -237,15 +239,30 @@ within-add_file w s k room low bare none_waits unnamed silent = record {
   ];
 }
 
+-- A socket of a pair does not listen.
+silent-paired : (kind : SockType) (other : ℕ) → is_listening (paired_state kind other) ≡ false
+silent-paired Stream other = refl
+silent-paired Seqpacket other = refl
+silent-paired Dgram other = refl
+
 -- Two sockets more, where there is room for them.
 pub within-pair : (w : World) (kind : SockType) → IsWithin w → is_full w 2 ≡ false → IsWithin (with_pair w kind)
 within-pair w kind k room =
     let parts = neither _ _ room in
     let few = ltb-false MAX_FILES (map.len w.files + 2) parts.0 in
     let low = ltb-false (MAX_INO + 1) (w.next_ino + 2) parts.1 in
-    let one_more = len-insert_most w.files w.next_ino (AsSocket (connected_socket kind (w.next_ino + 1))) in
-    within-add_file (add_file w (AsSocket (connected_socket kind (w.next_ino + 1)))) (connected_socket kind w.next_ino)
-    (within-add_file w (connected_socket kind (w.next_ino + 1)) k (omega (arith, few)) (omega (arith, low)) refl refl refl refl) (omega (arith, few, one_more)) (omega (arith, low)) refl refl refl refl
+    let one_more = len-insert_most w.files w.next_ino
+    (AsSocket (paired_socket kind (w.next_ino + 1))) in
+    within-add_file (add_file w (AsSocket (paired_socket kind (w.next_ino + 1))))
+    (paired_socket kind w.next_ino)
+    (within-add_file w (paired_socket kind (w.next_ino + 1)) k (omega (arith, few)) (omega (
+      arith,
+      low,
+    )) refl refl refl (silent-paired kind (w.next_ino + 1))) (omega (
+      arith,
+      few,
+      one_more,
+    )) (omega (arith, low)) refl refl refl (silent-paired kind w.next_ino)
 
 -- A socket that hung up has no backlog.
 same_room : (gone : ℕ → Bool) (t : State) → room_of (state_without gone t) ≡ room_of t
@@ -253,6 +270,7 @@ same_room gone state.Idle = refl
 same_room gone (state.Listening b) = refl
 same_room gone (state.Connected p) = elim (gone p) as (λ b. room_of (cond b state.HungUp (state.Connected p)) ≡ 0) [ true ↦ refl | false ↦ refl ]
 same_room gone state.HungUp = refl
+same_room gone (state.Sends q) = refl
 
 -- A socket that hangs up did not listen, and does not.
 same_listening : (gone : ℕ → Bool) (t : State) → is_listening (state_without gone t) ≡ is_listening t
@@ -260,6 +278,7 @@ same_listening gone state.Idle = refl
 same_listening gone (state.Listening b) = refl
 same_listening gone (state.Connected p) = elim (gone p) as (λ b. is_listening (cond b state.HungUp (state.Connected p)) ≡ false) [ true ↦ refl | false ↦ refl ]
 same_listening gone state.HungUp = refl
+same_listening gone (state.Sends q) = refl
 
 -- Without some files.
 pub within-gone : (gone : ℕ → Bool) (w : World) → IsWithin w → IsWithin (without gone w)

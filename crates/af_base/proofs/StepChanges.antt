@@ -1,6 +1,7 @@
 -- The changes of a step, one after the other, each with its requirements.
-use Rattle.std.proofs.Common.{◌≡◌, ◌<◌, ◌≤◌, ℕ, ◌+◌, Bool, true, false, ◌⊎◌, inl, inr, List, [], ◌∷◌, ◌++◌, length, refl, subst, nat_eq, arith}
+use Rattle.std.proofs.Common.{◌≡◌, ◌<◌, ◌≤◌, ℕ, ◌+◌, Bool, true, false, ◌⊎◌, inl, inr, List, [], ◌∷◌, ◌++◌, length, refl, ap, subst, nat_eq, arith}
 use Rattle.std.specs.Prelude.{Some, None, if◌then◌else◌}
+use Rattle.std.specs.Option.{option_and_then}
 use Rattle.std.specs.List.{Contains, list_any, zip}
 use Rattle.std.specs.FinMap as map
 use Rattle.af_base.specs.declared.events.SockType.{SockType}
@@ -9,22 +10,23 @@ use Rattle.af_base.specs.declared.limits.TheConstants.{MAX_BACKLOG, MAX_INFLIGHT
 use Rattle.af_base.specs.World.{AsSocket, File, IsLive, Map, Message, Plain, Process, Socket, World}
 use Rattle.af_base.specs.Places.{Holds, InTable, contents}
 use Rattle.af_base.specs.Counts.{total}
-use Rattle.af_base.specs.Changes.{add_file, add_process, add_user, connected, dequeued, install, install_all, listening, push_message, pushed, queued, remove_process, set_limit, shut, uninstall, with_name, with_queue, with_socket}
+use Rattle.af_base.specs.Changes.{add_file, add_process, add_user, aimed, connected, dequeued, install, install_all, listening, push_message, pushed, queued, remove_process, set_limit, shut, uninstall, with_name, with_queue, with_socket}
 use Rattle.af_base.specs.Names.{is_name, named, set_of}
 use Rattle.af_base.specs.Reached.{Reached}
-use Rattle.af_base.specs.Refusals.{is_at_process_limit, is_full, room_of}
+use Rattle.af_base.specs.Refusals.{is_at_process_limit, is_datagram, is_full, room_of, socket_of}
 use Rattle.af_base.specs.Steps.{connected_socket, idle_socket, with_embryo, with_pair}
 use Rattle.af_base.specs.Take.{take_from}
 use Rattle.af_base.specs.Whole.{IsMessageWithin, IsProcessWithin, IsWhole, IsWithin}
 use Rattle.af_base.proofs.NewFiles.{whole-add_process, whole-add_user}
 use Rattle.af_base.proofs.Connections.{whole-accepted, whole-bound, whole-embryo, whole-listening, whole-shut, within-accepted, within-bound, within-embryo, within-listening, within-shut}
+use Rattle.af_base.proofs.Datagrams.{datagram-alone, held-aimed, whole-aimed, within-aimed}
 use Rattle.af_base.proofs.Elements.{Contains-first, Contains-later}
 use Rattle.af_base.proofs.ProcessExits.{tabled-remove, whole-remove_process, within-remove_process}
 use Rattle.af_base.proofs.Free.{AreFree, first-low, rest-free}
 use Rattle.af_base.proofs.ProcessLimits.{tabled-limited, whole-limited, within-limited}
 use Rattle.af_base.proofs.PlaceMoves.{tabled-install, tabled-uninstall, there-install}
 use Rattle.af_base.proofs.SocketNames.{named-none}
-use Rattle.af_base.proofs.BlankFiles.{IsBlank, blank-connected, blank-idle, blank-plain, whole-blank, whole-plain, within-blank, within-plain}
+use Rattle.af_base.proofs.BlankFiles.{IsBlank, blank-connected, blank-idle, blank-paired, blank-plain, whole-blank, whole-plain, within-blank, within-plain}
 use Rattle.af_base.proofs.Pairs.{whole-pair}
 use Rattle.af_base.proofs.AllowedSteps.{held-with_socket}
 use Rattle.af_base.proofs.HeldFiles.{held-dequeued, held-pushed, held-queued, held-taken, tabled-more}
@@ -115,19 +117,26 @@ module _ {old w : World} (c : Changed old w) where
   -- Two connected sockets are made.
   pub changed-pair : (kind : SockType) → is_full w 2 ≡ false → Changed old (with_pair w kind)
   changed-pair kind room = record {
-    places = Adds _ _ (Adds w _ c.places (blank-connected kind (w.next_ino + 1))) (blank-connected kind w.next_ino);
+    places = Adds _ _ (Adds w _ c.places (blank-paired kind (w.next_ino + 1)))
+        (blank-paired kind w.next_ino);
     fits = λ k. let j = c.fits k in (whole-pair w kind j.0, within-pair w kind j.1 room);
   }
 
   -- A client is connected to an embryo, which waits at a listener.
-  pub changed-embryo : (s l : ℕ) (kind : SockType) (x y : Socket) → map.get w.files s ≡ Some (AsSocket x) → x.state ≡ state.Idle → map.get w.files l ≡ Some (AsSocket y) → nat_eq l s ≡ false → is_full w 1 ≡ false → length y.backlog < room_of y.state → old.next_ino ≤ w.next_ino
+  pub changed-embryo : (s l : ℕ) (kind : SockType) (x y : Socket) → map.get w.files s
+      ≡ Some (AsSocket x) → x.state ≡ state.Idle → is_datagram x.kind ≡ false → is_datagram kind
+      ≡ false → map.get w.files l ≡ Some (AsSocket y) → nat_eq l s ≡ false → is_full w 1 ≡ false
+      → length y.backlog < room_of y.state → old.next_ino ≤ w.next_ino
       → Changed old (with_embryo w s l kind)
-  changed-embryo s l kind x y there idle listens apart room waits low =
+  changed-embryo s l kind x y there idle stream same listens apart room waits low =
       let base = add_file w (AsSocket (connected_socket kind s)) in
       record {
         places = Sets (with_socket base s (connected w.next_ino)) l (queued w.next_ino) (Sets base s (connected w.next_ino) (Adds w _ c.places (blank-connected kind s)) (still-holds old base s (connected w.next_ino) (λ z. refl)))
             (λ q f h. elim (held-queued (with_socket base s (connected w.next_ino)) l w.next_ino q f h) [ inl z ↦ inl z | inr e ↦ inr (inr (omega (arith, low, e))) ]);
-        fits = λ k. let j = c.fits k in (whole-embryo w s l kind x y j.0 there idle listens apart, within-embryo w s l kind x y j.0 there idle listens apart j.1 room waits);
+        fits = λ k. let j = c.fits k in (
+          whole-embryo w s l kind x y j.0 there idle listens apart stream same,
+          within-embryo w s l kind x y j.0 there idle listens apart j.1 room waits,
+        );
       }
 
   -- A socket gets a name, which is free in its set.
@@ -137,8 +146,25 @@ module _ {old w : World} (c : Changed old w) where
   changed-name s name x at fits free = sets s (with_name name) (still-holds old w s (with_name name) (λ z. refl)) (λ k. (whole-bound w s name x at (named-none w (set_of x.kind) name free) k.0, within-bound w s name x k.1 at fits))
 
   -- A socket becomes a listener.
-  pub changed-listen : (s b : ℕ) (x : Socket) → map.get w.files s ≡ Some (AsSocket x) → x.state ≡ state.Idle → 1 ≤ b → b ≤ MAX_BACKLOG → Changed old (with_socket w s (listening b))
-  changed-listen s b x at idle some low = sets s (listening b) (still-holds old w s (listening b) (λ z. refl)) (λ k. (whole-listening w s b x at idle k.0, within-listening w s b x k.1 at idle some low))
+  pub changed-listen : (s b : ℕ) (x : Socket) → map.get w.files s ≡ Some (AsSocket x)
+      → is_datagram x.kind ≡ false → x.state ≡ state.Idle → 1 ≤ b → b ≤ MAX_BACKLOG
+      → Changed old (with_socket w s (listening b))
+  changed-listen s b x at stream idle some low =
+      sets s (listening b) (still-holds old w s (listening b) (λ z. refl))
+      (λ k. (
+        whole-listening w s b x at stream idle k.0,
+        within-listening w s b x k.1 at idle some low,
+      ))
+
+  -- A datagram socket gets another target, whose number was given, or none.
+  pub changed-aimed : (s to : ℕ) (x : Socket) → map.get w.files s ≡ Some (AsSocket x)
+      → is_datagram x.kind ≡ true → (IsWhole w → to < w.next_ino)
+      → Changed old (with_socket w s (aimed to))
+  changed-aimed s to x at datagram low =
+      sets s (aimed to) (λ q f h. inl (held-aimed w s to q f h)) (λ k.
+      let alone = datagram-alone x.kind x.state
+      (k.0.types s x (ap (option_and_then socket_of) at)) datagram in
+      (whole-aimed w s to x at datagram (low k.0) k.0, within-aimed w s to x k.1 at alone.0))
 
   -- Ends of a socket are closed.
   pub changed-shut : (s : ℕ) (input output : Bool) → Changed old (with_socket w s (shut input output))

@@ -1,10 +1,11 @@
 -- How a world is changed: a value in a map, a table, a socket, a file or a process more.
 -- Definitions that name no manual page are of this project's profile (docs/PROFILE.md).
-use Rattle.std.specs.Prelude.{ℕ, ◌+◌, Bool, ◌||◌, List, [], ◌∷◌, ◌++◌, Some, drop, nat_eq, if◌then◌else◌}
+use Rattle.std.specs.Prelude.{ℕ, ◌+◌, Bool, false, not, ◌||◌, List, [], ◌∷◌, ◌++◌, Some, drop, nat_eq, if◌then◌else◌}
 use Rattle.std.specs.List.{list_any}
 use Rattle.std.specs.Option.{option_map_or}
 use Rattle.std.specs.FinMap as map
 use Rattle.af_base.specs.declared.events.Ends.{Ends}
+use Rattle.af_base.specs.declared.events.State.{State}
 use Rattle.af_base.specs.declared.events.State.TheVariants as state
 use Rattle.af_base.specs.World.{World, Map, Process, File, Socket, Message, Plain, AsSocket}
 
@@ -77,6 +78,26 @@ listening b s = record s { state = state.Listening b }
 -- A socket that is connected to f (connect(2)).
 abbrev pub connected : ℕ → Socket → Socket
 connected f s = record s { state = state.Connected f }
+
+-- Whether a socket of this state sends to another target than f (connect(2)).
+abbrev pub sends_elsewhere : ℕ → State → Bool
+sends_elsewhere f state.Idle = false
+sends_elsewhere f (state.Listening b) = false
+sends_elsewhere f (state.Connected q) = false
+sends_elsewhere f state.HungUp = false
+sends_elsewhere f (state.Sends q) = not (nat_eq q f)
+
+-- The state of a datagram socket that sends to f, or, of 0, has no target (connect(2)).
+abbrev pub sending_to : ℕ → State
+sending_to f = if nat_eq f 0 then state.Idle else state.Sends f
+
+-- A datagram socket that sends to f from now on, or, of 0, has no target. What waits there is lost
+-- where it sent to another (connect(2)).
+abbrev pub aimed : ℕ → Socket → Socket
+aimed f s = record s {
+  state = sending_to f;
+  queue = if sends_elsewhere f s.state then [] else s.queue;
+}
 
 -- The ends with the input closed if `input` says so, and the output if `output` does (shutdown(2)).
 abbrev pub closed : Bool → Bool → Ends → Ends

@@ -25,6 +25,8 @@ number_of errno.ENOMEM = 17
 number_of errno.EBUSY = 18
 number_of errno.EIDLE = 19
 number_of errno.ERANGE = 20
+number_of errno.EPERM = 21
+number_of errno.EOPNOTSUPP = 22
 
 -- Their names in capitals, as bytes (errno(3); EIDLE is this project's own).
 abbrev pub name_of : declared.Errno → List ℕ
@@ -48,3 +50,5 @@ name_of errno.ENOMEM = codes "ENOMEM"
 name_of errno.EBUSY = codes "EBUSY"
 name_of errno.EIDLE = codes "EIDLE"
 name_of errno.ERANGE = codes "ERANGE"
+name_of errno.EPERM = codes "EPERM"
+name_of errno.EOPNOTSUPP = codes "EOPNOTSUPP"

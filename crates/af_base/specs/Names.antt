@@ -5,7 +5,7 @@ use Rattle.std.specs.Option.{option_map, option_map_or}
 use Rattle.std.specs.Str.{bytes_eq}
 use Rattle.std.specs.FinMap as map
 use Rattle.af_base.specs.declared.events.SockType.{SockType}
-use Rattle.af_base.specs.declared.events.SockType.TheVariants.{Stream, Seqpacket}
+use Rattle.af_base.specs.declared.events.SockType.TheVariants.{Stream, Seqpacket, Dgram}
 use Rattle.af_base.specs.declared.limits.TheConstants.{MAX_NAME}
 use Rattle.af_base.specs.World.{Map, File, Socket, Plain, AsSocket}
 
@@ -24,10 +24,12 @@ abbrev pub is_name : List ℕ → Bool
 is_name bytes = is_between 1 MAX_NAME (length bytes) && list_all is_name_byte bytes
 
 -- The set in which sockets of this type have their names: several sets may have the same name. One
--- set serves both types (unix(7), abstract; the one set is this project's profile).
+-- set serves streams and packets, another one datagrams (unix(7), abstract; the one set of two types
+-- is this project's profile).
 abbrev pub set_of : SockType → ℕ
 set_of Stream = 0
 set_of Seqpacket = 0
+set_of Dgram = 1
 
 -- The set and the name that the socket is bound to, if it has a name (bind(2)).
 abbrev pub bound_to : Socket → Option (ℕ × List ℕ)

@@ -5,16 +5,17 @@ use Rattle.std.specs.List.{list_any}
 use Rattle.std.specs.Option.{option_and_then, option_map_or}
 use Rattle.std.specs.FinMap as map
 use Rattle.af_base.specs.declared.events.SockType.{SockType}
-use Rattle.af_base.specs.declared.events.SockType.TheVariants.{Seqpacket, Stream}
+use Rattle.af_base.specs.declared.events.SockType.TheVariants.{Dgram, Seqpacket, Stream}
 use Rattle.af_base.specs.declared.events.State.{State}
 use Rattle.af_base.specs.declared.events.State.TheVariants as state
 use Rattle.af_base.specs.declared.errno.Errno.{Errno}
-use Rattle.af_base.specs.declared.errno.Errno.TheVariants.{EADDRINUSE, EAGAIN, EBADF, ECONNREFUSED, EINVAL, EISCONN, EMFILE, EMSGSIZE, ENFILE, ENOBUFS, ENOTCONN, ENOTSOCK, EPIPE, EPROTOTYPE, ERANGE, ESRCH, ETOOMANYREFS}
+use Rattle.af_base.specs.declared.errno.Errno.TheVariants.{EADDRINUSE, EAGAIN, EBADF, ECONNREFUSED, EINVAL, EISCONN, EMFILE, EMSGSIZE, ENFILE, ENOBUFS, ENOTCONN, ENOTSOCK, EOPNOTSUPP, EPERM, EPIPE, EPROTOTYPE, ERANGE, ESRCH, ETOOMANYREFS}
 use Rattle.af_base.specs.declared.events.Step.{Step}
 use Rattle.af_base.specs.declared.events.Step.TheVariants as step
 use Rattle.af_base.specs.declared.limits.TheConstants.{MAX_PROCESSES, MAX_NOFILE, MAX_FILES, MAX_MESSAGES, MAX_BYTES, SCM_MAX_FD, MAX_BACKLOG, MAX_INFLIGHT, MAX_PID, MAX_INO}
 use Rattle.af_base.specs.World.{World, Map, Message, Process, Socket, File, Plain, AsSocket, open_ends}
 use Rattle.af_base.specs.Places.{table_at, queue_at}
+use Rattle.af_base.specs.Changes.{sends_elsewhere}
 use Rattle.af_base.specs.Counts.{charged, total}
 use Rattle.af_base.specs.Names.{is_between, is_name, named, set_of}
 use Rattle.af_base.specs.Table.{free_numbers}
@@ -48,14 +49,17 @@ abbrev pub socket_of : File → Option Socket
 socket_of Plain = None
 socket_of (AsSocket s) = Some s
 
--- The socket of this inode number.
+-- The socket that the file f of these is.
+abbrev pub socket_in : Map File → ℕ → Option Socket
+socket_in files f = option_and_then socket_of (map.get files f)
+
+-- The same of a world.
 abbrev pub socket_at : World → ℕ → Option Socket
-socket_at w f = option_and_then socket_of (map.get w.files f)
+socket_at w f = socket_in w.files f
 
 -- Whether the file f of these is a socket whose input is closed (shutdown(2)).
 abbrev pub is_deaf_in : Map File → ℕ → Bool
-is_deaf_in files f =
-    option_map_or (λ s. s.ends.no_input) (option_and_then socket_of (map.get files f)) false
+is_deaf_in files f = option_map_or (λ s. s.ends.no_input) (socket_in files f) false
 
 -- The same of a world.
 abbrev pub is_deaf : World → ℕ → Bool
@@ -75,6 +79,7 @@ is_connected state.Idle = false
 is_connected (state.Listening b) = false
 is_connected (state.Connected q) = true
 is_connected state.HungUp = true
+is_connected (state.Sends q) = false
 
 -- Whether both are one type.
 abbrev pub is_same_type : SockType → SockType → Bool
@@ -82,6 +87,17 @@ is_same_type Stream Stream = true
 is_same_type Stream Seqpacket = false
 is_same_type Seqpacket Stream = false
 is_same_type Seqpacket Seqpacket = true
+is_same_type Stream Dgram = false
+is_same_type Seqpacket Dgram = false
+is_same_type Dgram Stream = false
+is_same_type Dgram Seqpacket = false
+is_same_type Dgram Dgram = true
+
+-- Whether it is the type of datagram sockets.
+abbrev pub is_datagram : SockType → Bool
+is_datagram Stream = false
+is_datagram Seqpacket = false
+is_datagram Dgram = true
 
 -- Whether its peer was freed.
 abbrev pub is_hung_up : State → Bool
@@ -89,6 +105,16 @@ is_hung_up state.Idle = false
 is_hung_up (state.Listening b) = false
 is_hung_up (state.Connected q) = false
 is_hung_up state.HungUp = true
+is_hung_up (state.Sends q) = false
+
+-- Whether messages can come to it and go from it: it was ever connected, or is a datagram socket.
+abbrev pub is_linked : Socket → Bool
+is_linked s = is_connected s.state || is_datagram s.kind
+
+-- Whether nothing can come any more: its peer was freed, or its input is closed. A datagram socket
+-- has no end (shutdown(2), SHUT_RD).
+abbrev pub is_ended : Socket → Bool
+is_ended s = is_hung_up s.state || (s.ends.no_input && not (is_datagram s.kind))
 
 -- Whether it waits for connections.
 abbrev pub is_listening : State → Bool
@@ -96,6 +122,7 @@ is_listening state.Idle = false
 is_listening (state.Listening b) = true
 is_listening (state.Connected q) = false
 is_listening state.HungUp = false
+is_listening (state.Sends q) = false
 
 -- How many embryos it may hold: none, where it does not listen (listen(2)).
 abbrev pub room_of : State → ℕ
@@ -103,23 +130,36 @@ room_of state.Idle = 0
 room_of (state.Listening b) = b
 room_of (state.Connected q) = 0
 room_of state.HungUp = 0
+room_of (state.Sends q) = 0
 
--- The live peer, or 0, which is no inode number.
+-- The live peer, or the target of a datagram socket, live or freed; or 0, which is no inode number.
 abbrev pub peer_of : State → ℕ
 peer_of state.Idle = 0
 peer_of (state.Listening b) = 0
 peer_of (state.Connected q) = q
 peer_of state.HungUp = 0
+peer_of (state.Sends q) = q
+
+-- The live peer alone, or 0: a target is none (socketpair(2)).
+abbrev pub connected_to : State → ℕ
+connected_to state.Idle = 0
+connected_to (state.Listening b) = 0
+connected_to (state.Connected q) = q
+connected_to state.HungUp = 0
+connected_to (state.Sends q) = 0
 
 -- The inode number of the live socket that a socket of this type finds by this name, or 0, which is
 -- none.
 abbrev pub ino_named : World → SockType → List ℕ → ℕ
 ino_named w kind name = unwrap_or (named w.files (set_of kind) name) 0
 
--- The live socket that a socket of this type finds by this name.
+-- The live socket that a socket of this type finds by this name, if there is one.
+abbrev pub target_named : World → SockType → List ℕ → Option Socket
+target_named w kind name = option_and_then (socket_at w) (named w.files (set_of kind) name)
+
+-- The same, where there is one.
 abbrev pub socket_named : World → SockType → List ℕ → Socket
-socket_named w kind name =
-    unwrap_or (option_and_then (socket_at w) (named w.files (set_of kind) name)) no_socket
+socket_named w kind name = unwrap_or (target_named w kind name) no_socket
 
 -- Whether fewer than k descriptors of the table are free (open(2), EMFILE).
 abbrev pub is_short : Process → ℕ → Bool
@@ -192,15 +232,20 @@ on_bind s name = (
 abbrev pub on_name : Option ℕ → RefusalRow
 on_name owner = (not (is_none owner), EADDRINUSE) ∷ []
 
--- The socket must have a name and be new, and b be a right backlog (listen(2), EINVAL).
+-- The socket must be for connections, have a name and be new, and b be a right backlog (listen(2),
+-- EOPNOTSUPP, EINVAL).
 abbrev pub on_listen : Socket → ℕ → RefusalRow
-on_listen s b = (
+on_listen s b = (is_datagram s.kind, EOPNOTSUPP) ∷ (
   is_none s.name || is_connected s.state || is_listening s.state
       || not (is_between 1 MAX_BACKLOG b),
   EINVAL,
 ) ∷ []
 
--- A connecting socket must be new (connect(2), EISCONN).
+-- The socket must be for datagrams (connect(2), EINVAL).
+abbrev pub on_datagrams : Socket → RefusalRow
+on_datagrams s = (not (is_datagram s.kind), EINVAL) ∷ []
+
+-- A connecting socket must be new, or for datagrams (connect(2), EISCONN).
 abbrev pub on_client : State → RefusalRow
 on_client s = (is_listening s, EINVAL) ∷ (is_connected s, EISCONN) ∷ []
 
@@ -213,9 +258,14 @@ on_listener s kind =
     ∷ (nat_le (room_of s.state) (length s.backlog), EAGAIN)
     ∷ []
 
--- The socket must listen, and an embryo wait there (accept(2), EINVAL, EAGAIN).
+-- The socket must be for connections and listen, and an embryo wait there (accept(2), EOPNOTSUPP,
+-- EINVAL, EAGAIN).
 abbrev pub on_accept : Socket → RefusalRow
-on_accept s = (not (is_listening s.state), EINVAL) ∷ (nat_eq (length s.backlog) 0, EAGAIN) ∷ []
+on_accept s =
+    (is_datagram s.kind, EOPNOTSUPP)
+    ∷ (not (is_listening s.state), EINVAL)
+    ∷ (nat_eq (length s.backlog) 0, EAGAIN)
+    ∷ []
 
 -- A message must have a valid number of bytes and of descriptors, each of them open by this look-up
 -- (sendmsg(2); unix(7), SCM_RIGHTS).
@@ -230,8 +280,17 @@ on_parts look bytes attach =
 -- EPIPE).
 abbrev pub on_peer : Socket → RefusalRow
 on_peer s =
-    (not (is_connected s.state), ENOTCONN)
+    (not (is_linked s), ENOTCONN)
     ∷ (is_hung_up s.state || s.ends.no_output, EPIPE)
+    ∷ (nat_eq (peer_of s.state) 0, ENOTCONN)
+    ∷ []
+
+-- The socket to which f sends or connects must be live, and take from f: a datagram socket that sends
+-- to another takes from that one alone (connect(2), ECONNREFUSED, EPERM).
+abbrev pub on_target : ℕ → Option Socket → RefusalRow
+on_target f target =
+    (is_none target, ECONNREFUSED)
+    ∷ (option_map_or (λ t. sends_elsewhere f t.state) target false, EPERM)
     ∷ []
 
 -- A message with this many files must not be too much in flight, for a user with this charge and
@@ -256,8 +315,8 @@ on_room queue = (nat_le MAX_MESSAGES (length queue), EAGAIN) ∷ []
 abbrev pub on_receive : Socket → ℕ → RefusalRow
 on_receive s max_bytes =
     (not (is_between 1 MAX_BYTES max_bytes), EINVAL)
-    ∷ (not (is_connected s.state), ENOTCONN)
-    ∷ (nat_eq (length s.queue) 0 && not (is_hung_up s.state || s.ends.no_input), EAGAIN)
+    ∷ (not (is_linked s), ENOTCONN)
+    ∷ (nat_eq (length s.queue) 0 && not (is_ended s), EAGAIN)
     ∷ []
 
 -- ---- The rows, each the joining of its parts.
@@ -276,7 +335,7 @@ spawn_row w nofile = on_limit nofile ++ on_processes w
 
 -- Why a step of a running process is refused, but for out of memory: open(2), dup(2), dup2(2),
 -- close(2), fork(2), _exit(2), socketpair(2), socket(2), bind(2), listen(2), connect(2), accept(2),
--- sendmsg(2), recvmsg(2), setrlimit(2), shutdown(2).
+-- sendmsg(2), recvmsg(2), setrlimit(2), shutdown(2), and connect(2) to AF_UNSPEC.
 abbrev pub step_row : World → ℕ → Step → RefusalRow
 step_row w p step.Open = on_free (process_at w p) 1 ++ on_files w 1
 step_row w p (step.Dup n) = on_number (table_at w p n) ++ on_free (process_at w p) 1
@@ -294,8 +353,9 @@ step_row w p (step.Connect n name) =
     let s = socket_on w p n in
     at_socket w p n
     ++ on_client s.state
-    ++ on_listener (socket_named w s.kind name) s.kind
-    ++ on_files w 1
+    ++ (if is_datagram s.kind
+    then on_target (ino_on w p n) (target_named w s.kind name)
+    else on_listener (socket_named w s.kind name) s.kind ++ on_files w 1)
 step_row w p (step.Accept n) =
     at_socket w p n ++ on_accept (socket_on w p n) ++ on_free (process_at w p) 1
 step_row w p (step.Send n bytes attach) =
@@ -304,6 +364,7 @@ step_row w p (step.Send n bytes attach) =
     at_socket w p n
     ++ on_parts (table_at w p) bytes attach
     ++ on_peer s
+    ++ on_target (ino_on w p n) (socket_at w (peer_of s.state))
     ++ on_charge (charged w q.user) (total w) q.limit q.privileged (length attach)
     ++ on_input (is_deaf w (peer_of s.state))
     ++ on_room (queue_at w (peer_of s.state))
@@ -311,6 +372,7 @@ step_row w p (step.Recv n max_bytes max_fds) = recv_row w p n max_bytes
 step_row w p (step.Peek n max_bytes max_fds) = recv_row w p n max_bytes
 step_row w p (step.Limit n) = on_limit n
 step_row w p (step.Shutdown n how) = at_socket w p n
+step_row w p (step.Unconnect n) = at_socket w p n ++ on_datagrams (socket_on w p n)
 
 -- The error with which a process cannot start, but for out of memory.
 abbrev pub spawn_refusal : World → ℕ → Option Errno

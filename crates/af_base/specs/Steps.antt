@@ -4,8 +4,10 @@ use Rattle.std.specs.Prelude.{◌≡◌, ◌⊎◌, ℕ, ◌+◌, Bool, true, fa
 use Rattle.std.specs.List.{zip}
 use Rattle.std.specs.FinMap as map
 use Rattle.af_base.specs.declared.events.SockType.{SockType}
+use Rattle.af_base.specs.declared.events.SockType.TheVariants.{Dgram, Seqpacket, Stream}
 use Rattle.af_base.specs.declared.events.Shutdown.{Shutdown}
 use Rattle.af_base.specs.declared.events.Shutdown.TheVariants as how
+use Rattle.af_base.specs.declared.events.State.{State}
 use Rattle.af_base.specs.declared.events.State.TheVariants as state
 use Rattle.af_base.specs.declared.errno.Errno.{Errno}
 use Rattle.af_base.specs.declared.errno.Errno.TheVariants.{ENOMEM}
@@ -15,11 +17,11 @@ use Rattle.af_base.specs.declared.events.Reply.{Reply}
 use Rattle.af_base.specs.declared.events.Reply.TheVariants as reply
 use Rattle.af_base.specs.World.{World, Socket, Plain, AsSocket}
 use Rattle.af_base.specs.Places.{table_at}
-use Rattle.af_base.specs.Changes.{dequeued, add_file, add_process, add_user, with_name, connected, install, install_all, listening, push_message, queued, remove_process, set_limit, shut, uninstall, with_queue, with_socket}
+use Rattle.af_base.specs.Changes.{aimed, dequeued, add_file, add_process, add_user, with_name, connected, install, install_all, listening, push_message, queued, remove_process, set_limit, shut, uninstall, with_queue, with_socket}
 use Rattle.af_base.specs.Table.{free_numbers, lowest_free}
 use Rattle.af_base.specs.Take.{TakeResult, take_from}
 use Rattle.af_base.specs.Unheld.{Settles}
-use Rattle.af_base.specs.Refusals.{ino_named, ino_on, no_socket, peer_of, process_at, refusal, socket_named, socket_on, spawn_refusal}
+use Rattle.af_base.specs.Refusals.{connected_to, ino_named, ino_on, is_datagram, no_socket, peer_of, process_at, refusal, socket_named, socket_on, spawn_refusal}
 
 -- The k-th of the free numbers of process p, from 0.
 abbrev pub free_at : World → ℕ → ℕ → ℕ
@@ -29,10 +31,21 @@ free_at w p k = slice_index (free_numbers (process_at w p)) k
 abbrev pub connected_socket : SockType → ℕ → Socket
 connected_socket kind peer = record no_socket { kind = kind; state = state.Connected peer }
 
+-- The state of a socket of a pair: connected to the other, or a datagram socket that sends there
+-- (socketpair(2)).
+abbrev pub paired_state : SockType → ℕ → State
+paired_state Stream other = state.Connected other
+paired_state Seqpacket other = state.Connected other
+paired_state Dgram other = state.Sends other
+
+-- A new socket of a pair with this one.
+abbrev pub paired_socket : SockType → ℕ → Socket
+paired_socket kind other = record no_socket { kind = kind; state = paired_state kind other }
+
 -- The world with two sockets more, connected to each other (socketpair(2)).
 abbrev pub with_pair : World → SockType → World
-with_pair w kind = add_file (add_file w (AsSocket (connected_socket kind (w.next_ino + 1))))
-    (AsSocket (connected_socket kind w.next_ino))
+with_pair w kind = add_file (add_file w (AsSocket (paired_socket kind (w.next_ino + 1))))
+    (AsSocket (paired_socket kind w.next_ino))
 
 -- A new socket that was never connected (socket(2)).
 abbrev pub idle_socket : SockType → Socket
@@ -96,7 +109,8 @@ received w p n max_bytes max_fds =
 
 -- The world after the places were changed, which is then settled, where nothing refuses the step
 -- (open(2), dup(2), dup2(2), close(2), fork(2), _exit(2), socketpair(2), socket(2), bind(2),
--- listen(2), connect(2), accept(2), sendmsg(2), recvmsg(2), setrlimit(2), shutdown(2)).
+-- listen(2), connect(2), accept(2), sendmsg(2), recvmsg(2), setrlimit(2), shutdown(2)). A connect of
+-- a datagram socket sets its target, and one to AF_UNSPEC leaves it none.
 abbrev pub effect : World → ℕ → Step → World
 effect w p step.Open = install (add_file w Plain) p (free_at w p 0) w.next_ino
 effect w p (step.Dup n) = install w p (free_at w p 0) (ino_on w p n)
@@ -112,7 +126,10 @@ effect w p (step.Bind n name) = with_socket w (ino_on w p n) (with_name name)
 effect w p (step.Listen n b) = with_socket w (ino_on w p n) (listening b)
 effect w p (step.Connect n name) =
     let kind = (socket_on w p n).kind in
-    with_embryo w (ino_on w p n) (ino_named w kind name) (socket_named w kind name).kind
+    let there = ino_named w kind name in
+    if is_datagram kind
+    then with_socket w (ino_on w p n) (aimed there)
+    else with_embryo w (ino_on w p n) there (socket_named w kind name).kind
 effect w p (step.Accept n) = install (with_socket w (ino_on w p n) dequeued) p (free_at w p 0)
     (first_embryo w p n)
 effect w p (step.Send n bytes attach) = push_message w (peer_of (socket_on w p n).state) (record {
@@ -128,7 +145,8 @@ effect w p (step.Peek n max_bytes max_fds) = install_all w p
     (zip (got_at w p n max_bytes max_fds) (taken_on w p n max_bytes).attached)
 effect w p (step.Limit n) = set_limit w p n
 effect w p (step.Shutdown n how) =
-    with_shut w (ino_on w p n) (peer_of (socket_on w p n).state) how
+    with_shut w (ino_on w p n) (connected_to (socket_on w p n).state) how
+effect w p (step.Unconnect n) = with_socket w (ino_on w p n) (aimed 0)
 
 -- The answer, where nothing refuses the step: a peek answers what a receive would (recvmsg(2),
 -- MSG_PEEK).
@@ -150,15 +168,17 @@ answer w p (step.Recv n max_bytes max_fds) = received w p n max_bytes max_fds
 answer w p (step.Peek n max_bytes max_fds) = received w p n max_bytes max_fds
 answer w p (step.Limit n) = reply.Ok
 answer w p (step.Shutdown n how) = reply.Ok
+answer w p (step.Unconnect n) = reply.Ok
 
--- Whether the step never needs memory: a close, an exit, a changed limit, a shutdown, and a number
--- put in place of itself (dup2(2): nothing is done; this project's profile).
+-- Whether the step never needs memory: a close, an exit, a changed limit, a shutdown, a connect to
+-- AF_UNSPEC, and a number put in place of itself (dup2(2): nothing is done; this project's profile).
 abbrev pub needs_no_memory : Step → Bool
 needs_no_memory (step.Dup2 n m) = nat_eq m n
 needs_no_memory (step.Close n) = true
 needs_no_memory step.Exit = true
 needs_no_memory (step.Limit n) = true
 needs_no_memory (step.Shutdown n how) = true
+needs_no_memory (step.Unconnect n) = true
 needs_no_memory s = false
 
 -- The outcome of a step: refused by an error and nothing changed; or answered, and the changed

@@ -1,11 +1,11 @@
 -- The part of a queue that a receive takes; the queue is not empty. The definition that names no
 -- manual page is of this project's profile (docs/PROFILE.md).
-use Rattle.std.specs.Prelude.{ℕ, ◌+◌, ◌-◌, Bool, false, not, List, [], ◌∷◌, take, drop, length, min, nat_lt, nat_le, if◌then◌else◌}
+use Rattle.std.specs.Prelude.{ℕ, ◌+◌, ◌-◌, Bool, true, false, not, List, [], ◌∷◌, take, drop, length, min, nat_lt, nat_le, if◌then◌else◌}
 use Rattle.std.specs.List.{flat_map, take_while, find}
 use Rattle.std.specs.Option.{option_map_or}
 use Rattle.af_base.specs.World.{Message}
 use Rattle.af_base.specs.declared.events.SockType.{SockType}
-use Rattle.af_base.specs.declared.events.SockType.TheVariants.{Stream, Seqpacket}
+use Rattle.af_base.specs.declared.events.SockType.TheVariants.{Stream, Seqpacket, Dgram}
 
 -- The result of taking: the messages, whether bytes were dropped (recvmsg(2), MSG_TRUNC), and the
 -- rest of the queue.
@@ -65,7 +65,15 @@ take_stream q n =
     option_map_or (λ m. take_to q n m.attached begin (begin + length m.bytes)) (find has_files q)
     (take_to q n [] begin begin)
 
+-- Whether sockets of this type keep the borders between messages, so that a receive takes one
+-- (socket(2)).
+abbrev pub keeps_borders : SockType → Bool
+keeps_borders Stream = false
+keeps_borders Seqpacket = true
+keeps_borders Dgram = true
+
 -- The result of a receive of at most n bytes, by the socket's type.
 abbrev pub take_from : SockType → List Message → ℕ → TakeResult
 take_from Stream q n = take_stream q n
 take_from Seqpacket q n = take_seqpacket q n
+take_from Dgram q n = take_seqpacket q n

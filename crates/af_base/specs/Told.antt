@@ -39,9 +39,16 @@ AreChanged files since told = (f : ℕ) → IsTrue (is_socket_in files f) → co
 abbrev pub TellsReleased : World → Since → List ℕ → Type 0
 TellsReleased w since told = since.released ≡ true → AreReleased w.files w.next_ino since told
 
--- A socket that is not in the list, and whose peer is not, is ready for what it was then.
+-- The target q is not in the list, and was not freed since.
+pub record HasTargetAsThen (w : World) (since : Since) (told : List ℕ) (q : ℕ) : Type 0 where
+  pub untold : count_in q told ≡ 0
+  pub there : IsTrue (is_socket_in since.files q) → IsTrue (is_socket_in w.files q)
+
+-- A socket that is not in the list, and whose peer or target is not, is ready for what it was then;
+-- but for one whose target was freed, which the list of freed files tells.
 abbrev pub TellsChanged : World → Since → List ℕ → Type 0
 TellsChanged w since told =
     since.changed ≡ true → (f : ℕ) → IsTrue (is_socket_in w.files f)
     → count_in f told ≡ 0 → ((q : ℕ) → state_at w f ≡ state.Connected q → count_in q told ≡ 0)
+    → ((q : ℕ) → state_at w f ≡ state.Sends q → HasTargetAsThen w since told q)
     → ready w f ≡ ready_in since.files f

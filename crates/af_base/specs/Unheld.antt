@@ -18,6 +18,7 @@ state_without gone state.Idle = state.Idle
 state_without gone (state.Listening b) = state.Listening b
 state_without gone (state.Connected peer) = cond (gone peer) state.HungUp (state.Connected peer)
 state_without gone state.HungUp = state.HungUp
+state_without gone (state.Sends to) = state.Sends to
 
 -- A file after some others are freed.
 abbrev pub file_without : (ℕ → Bool) → File → File

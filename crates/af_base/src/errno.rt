@@ -49,6 +49,10 @@ pub enum Errno {
     EIDLE,
     /// The limit on descriptors is too large.
     ERANGE,
+    /// The datagram socket sends to another one, and takes from that one alone.
+    EPERM,
+    /// Sockets of this type cannot do that.
+    EOPNOTSUPP,
 }
 
 impl Errno {
@@ -84,6 +88,8 @@ impl Errno {
             Errno::EBUSY => "EBUSY",
             Errno::EIDLE => "EIDLE",
             Errno::ERANGE => "ERANGE",
+            Errno::EPERM => "EPERM",
+            Errno::EOPNOTSUPP => "EOPNOTSUPP",
         }
     }
 }

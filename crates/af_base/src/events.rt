@@ -15,6 +15,8 @@ pub enum SockType {
     Stream,
     /// SOCK_SEQPACKET: connection-oriented, keeps message boundaries, delivers in order.
     Seqpacket,
+    /// SOCK_DGRAM: without connections, keeps message boundaries, delivers in order.
+    Dgram,
 }
 
 /// A socket's connection state.
@@ -29,6 +31,8 @@ pub enum State {
     Connected(Ino),
     /// Was connected; the peer was freed.
     HungUp,
+    /// Is a datagram socket that sends to this target, live or freed.
+    Sends(Ino),
 }
 
 /// Which ends of a socket shutdown(2) has closed: at first none, and an end is never opened again.
@@ -102,7 +106,8 @@ pub enum Step {
     Fork,
     /// The process ends (_exit(2)), and all its descriptors are closed.
     Exit,
-    /// socketpair(2): two sockets connected to each other.
+    /// socketpair(2): two sockets connected to each other, or datagram sockets that send to each
+    /// other.
     Pair(SockType),
     /// socket(2): a socket that was never connected.
     Socket(SockType),
@@ -116,7 +121,8 @@ pub enum Step {
         on: Fd,
         backlog: u32,
     },
-    /// connect(2) to the listener of this abstract name.
+    /// connect(2) to the listener of this abstract name, or of a datagram socket to the target of
+    /// this name.
     Connect {
         on: Fd,
         name: Bytes,
@@ -150,6 +156,9 @@ pub enum Step {
         on: Fd,
         how: Shutdown,
     },
+    /// connect(2) of a datagram socket to AF_UNSPEC: it has no target any longer, and what waits
+    /// there is lost.
+    Unconnect(Fd),
 }
 
 /// An event.
