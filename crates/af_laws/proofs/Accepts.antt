@@ -1,6 +1,6 @@
 -- Connects and accepts: the place of an embryo, from the backlog to a table.
 use Rattle.std.proofs.Common.{◌≡◌, inl, inr, ℕ, suc, ◌+◌, false, not, List, [], ◌∷◌, ◌++◌, drop, length, refl, sym, ap, ◌∙◌, subst, cond, nat_eq, arith}
-use Rattle.std.specs.Prelude.{Some, None, is_some, slice_get, unwrap_or}
+use Rattle.std.specs.Prelude.{Some, None, is_some, slice_get, unwrap_or, if◌then◌else◌}
 use Rattle.std.specs.Option.{option_map_or}
 use Rattle.std.specs.List.{Contains, sum_by}
 use Rattle.std.specs.FinMap as map
@@ -13,10 +13,10 @@ use Rattle.af_base.specs.declared.events.Step.TheVariants as step
 use Rattle.af_base.specs.World.{AsSocket, File, Message, Socket, World, is_live}
 use Rattle.af_base.specs.Places.{attached_in, backlog_at, backlog_of, contents, queue_of, table_at}
 use Rattle.af_base.specs.Counts.{charge, charged, count_in, inflight, one, refs, total, total_of, waiting}
-use Rattle.af_base.specs.Unheld.{IsSettled}
-use Rattle.af_base.specs.Changes.{add_file, connected, dequeued, file_with, queued, with_socket}
-use Rattle.af_base.specs.Refusals.{ino_named, ino_on, is_listening, process_at, refusal, socket_named, socket_on, step_row}
-use Rattle.af_base.specs.Steps.{ProcessStep, connected_socket, effect, first_embryo, free_at}
+use Rattle.af_base.specs.Unheld.{IsSettled, Settles}
+use Rattle.af_base.specs.Changes.{add_file, aimed, connected, dequeued, file_with, queued, with_socket}
+use Rattle.af_base.specs.Refusals.{ino_named, ino_on, is_datagram, is_listening, on_files, on_listener, on_target, process_at, refusal, socket_named, socket_on, step_row, target_named}
+use Rattle.af_base.specs.Steps.{ProcessStep, connected_socket, effect, first_embryo, free_at, with_embryo}
 use Rattle.af_base.specs.Table.{free_numbers}
 use Rattle.af_base.specs.Whole.{IsSound}
 use Rattle.af_base.proofs.NewFiles.{fresh_file}
@@ -38,7 +38,9 @@ use Rattle.af_laws.proofs.Outcomes.{settled_stays}
 use Rattle.af_laws.specs.Connecting.{AcceptKeepsReferences, AcceptTakesTheFirstEmbryo, AcceptedNumberIsTheEmbryo, ConnectChargesNobody, ConnectCounts, ConnectMakesAnEmbryo, IsEmbryoOf}
 
 -- A connect that nothing refuses.
-module _ (w : World) (p n : ℕ) (name : List ℕ) (sound : IsSound w) (fits : refusal w p (step.Connect n name) ≡ None) where
+module _ (w : World) (p n : ℕ) (name : List ℕ) (sound : IsSound w)
+    (fits : refusal w p (step.Connect n name) ≡ None) (stream : is_datagram (socket_on w p n).kind
+    ≡ false) where
   -- The embryo's number.
   abbrev e : ℕ
   e = w.next_ino
@@ -73,7 +75,11 @@ module _ (w : World) (p n : ℕ) (name : List ℕ) (sound : IsSound w) (fits : r
 
   -- The world after the connect.
   abbrev now : World
-  now = effect w p (step.Connect n name)
+  now = with_embryo w c l listener.kind
+
+  -- It is the effect of the connect.
+  leads : effect w p (step.Connect n name) ≡ now
+  leads = ap (λ b. if b then with_socket w c (aimed l) else now) stream
 
   -- No test of the row fits.
   row : NoneFits (step_row w p (step.Connect n name))
@@ -85,7 +91,9 @@ module _ (w : World) (p n : ℕ) (name : List ℕ) (sound : IsSound w) (fits : r
 
   -- The listener listens.
   hears : not (is_listening listener.state) ≡ false
-  hears = (neither _ _ row.rest.rest.rest.rest.here).0
+  hears = (neither _ _ (subst
+      (λ b. NoneFits (if b then on_target c (target_named w client.kind name) else on_listener
+      listener client.kind ++ on_files w 1)) stream row.rest.rest.rest.rest).here).0
 
   -- The listener is live.
   listener_there : map.get w.files l ≡ Some (AsSocket listener)
@@ -167,28 +175,45 @@ module _ (w : World) (p n : ℕ) (name : List ℕ) (sound : IsSound w) (fits : r
   }
 
 -- The world after a connect that is answered is its effect.
-module _ (old new : World) (p n : ℕ) (name : List ℕ) (sound : IsSound old) (h : ProcessStep old p (step.Connect n name) reply.Ok new) where
-  -- No test fits, and the world is the effect.
-  answered : (refusal old p (step.Connect n name) ≡ None) × (new ≡ effect old p (step.Connect n name))
+module _ (old new : World) (p n : ℕ) (name : List ℕ) (sound : IsSound old)
+    (stream : is_datagram (socket_on old p n).kind
+    ≡ false) (h : ProcessStep old p (step.Connect n name) reply.Ok new) where
+  -- The world after it.
+  abbrev done : World
+  done = with_embryo old (ino_on old p n) (ino_named old (socket_on old p n).kind name)
+      (socket_named old (socket_on old p n).kind name).kind
+
+  -- No test fits, and the world is that one.
+  answered : (refusal old p (step.Connect n name) ≡ None) × (new ≡ done)
   answered =
-      let done = outcome_done (refusal old p (step.Connect n name)) false reply.Ok (effect old p (step.Connect n name)) old reply.Ok new ok_is_done h in
-      (done.0, (settled_stays (effect old p (step.Connect n name)) new (now_settled old p n name sound done.0)).0 done.2)
+      let out = outcome_done (refusal old p (step.Connect n name)) false reply.Ok
+      (effect old p (step.Connect n name)) old reply.Ok new ok_is_done h in (
+        out.0,
+        (settled_stays done new (now_settled old p n name sound out.0 stream)).0
+            (subst (λ v. Settles v new) (leads old p n name sound out.0 stream) out.2),
+      )
 
 pub connect_makes_an_embryo : ConnectMakesAnEmbryo
-connect_makes_an_embryo old new p n name sound h =
-    let done = answered old new p n name sound h in
-    subst (λ x. IsEmbryoOf x (ino_named old (socket_on old p n).kind name) old.next_ino) (sym done.1) (is_embryo old p n name sound done.0)
+connect_makes_an_embryo old new p n name sound stream h =
+    let done = answered old new p n name sound stream h in
+    subst (λ x. IsEmbryoOf x (ino_named old (socket_on old p n).kind name) old.next_ino)
+    (sym done.1) (is_embryo old p n name sound done.0 stream)
 
 pub connect_counts : ConnectCounts
-connect_counts old new p n f name sound h =
-    let done = answered old new p n name sound h in
-    (ap (λ x. refs x f) done.1 ∙ refs_now old p n name sound done.0 f, ap (λ x. inflight x f) done.1 ∙ queues_now old p n name sound done.0 (λ q. count_in f (attached_in q)) refl)
+connect_counts old new p n f name sound stream h =
+    let done = answered old new p n name sound stream h in (
+      ap (λ x. refs x f) done.1 ∙ refs_now old p n name sound done.0 stream f,
+      ap (λ x. inflight x f) done.1
+          ∙ queues_now old p n name sound done.0 stream (λ q. count_in f (attached_in q)) refl,
+    )
 
 pub connect_charges_nobody : ConnectChargesNobody
-connect_charges_nobody old new p n u name sound h =
-    let done = answered old new p n name sound h in (
-      ap (λ x. charged x u) done.1 ∙ queues_now old p n name sound done.0 (λ q. sum_by (charge u) q) refl,
-      ap total done.1 ∙ queues_now old p n name sound done.0 (λ q. sum_by (λ m. length m.attached) q) refl,
+connect_charges_nobody old new p n u name sound stream h =
+    let done = answered old new p n name sound stream h in (
+      ap (λ x. charged x u) done.1
+          ∙ queues_now old p n name sound done.0 stream (λ q. sum_by (charge u) q) refl,
+      ap total done.1 ∙ queues_now old p n name sound done.0 stream
+          (λ q. sum_by (λ m. length m.attached) q) refl,
     )
 
 -- A list without its first has one less of that one.
@@ -223,7 +248,9 @@ module _ (w : World) (p n : ℕ) (sound : IsSound w) (fits : refusal w p (step.A
     at = process-there w p row.here
 
     free : map.get (process_at w p).table (free_at w p 0) ≡ None
-    free = (free-free_numbers (process_at w p)).free 0 0 (let some = ltb-false (length (free_numbers (process_at w p))) 1 row.rest.rest.rest.rest.rest.here in omega (arith, some))
+    free = (free-free_numbers (process_at w p)).free 0 0 (let some =
+        ltb-false (length (free_numbers (process_at w p))) 1
+        row.rest.rest.rest.rest.rest.rest.here in omega (arith, some))
 
     same_refs : (f : ℕ) → refs accepted f ≡ refs w f
     same_refs f =
@@ -233,11 +260,16 @@ module _ (w : World) (p n : ℕ) (sound : IsSound w) (fits : refusal w p (step.A
           total-change_at (λ y. count_in f (contents y)) (file_with dequeued) w.files s (AsSocket x) there,
           count-append f (attached_in x.queue) (drop 1 x.backlog),
           count-append f (attached_in x.queue) x.backlog,
-          count_first f x.backlog row.rest.rest.rest.rest.here,
+          count_first f x.backlog row.rest.rest.rest.rest.rest.here,
         )
 
     waits_less : (f : ℕ) → waiting accepted f + one f (first_embryo w p n) ≡ waiting w f
-    waits_less f = omega (arith, total-change_at (λ y. count_in f (backlog_of y)) (file_with dequeued) w.files s (AsSocket x) there, count_first f x.backlog row.rest.rest.rest.rest.here)
+    waits_less f = omega (
+      arith,
+      total-change_at (λ y. count_in f (backlog_of y)) (file_with dequeued) w.files s
+          (AsSocket x) there,
+      count_first f x.backlog row.rest.rest.rest.rest.rest.here,
+    )
 
     rest_waits : backlog_at accepted s ≡ drop 1 (backlog_at w s)
     rest_waits = ap (λ o. option_map_or backlog_of o []) (there-changed w s dequeued x there) ∙ sym (ap (λ o. drop 1 (option_map_or backlog_of o [])) there)

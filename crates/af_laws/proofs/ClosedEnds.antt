@@ -1,6 +1,6 @@
 -- Which ends a shutdown closes, that a closed end stays closed, and that nothing is sent through it.
 use Rattle.std.proofs.Common.{◌≡◌, ℕ, Bool, true, false, not, ◌||◌, [], ◌∷◌, ◌++◌, length, refl, sym, ap, ◌∙◌, subst, cond, arith}
-use Rattle.std.specs.Prelude.{Option, Some, None, is_some, option_map, unwrap_or}
+use Rattle.std.specs.Prelude.{Option, Some, None, is_some, nat_eq, option_map, unwrap_or}
 use Rattle.std.specs.Option.{option_and_then}
 use Rattle.std.specs.Ordering.{nat_cmp, eq_by_cmp}
 use Rattle.std.specs.Cmp.{unsigned_tied}
@@ -11,22 +11,24 @@ use Rattle.af_base.specs.declared.events.Event.{Event}
 use Rattle.af_base.specs.declared.events.Event.TheVariants as event
 use Rattle.af_base.specs.declared.events.Reply.TheVariants as reply
 use Rattle.af_base.specs.declared.events.Shutdown.{Shutdown}
+use Rattle.af_base.specs.declared.events.SockType.{SockType}
 use Rattle.af_base.specs.declared.events.Step.{Step}
 use Rattle.af_base.specs.declared.events.Step.TheVariants as step
 use Rattle.af_base.specs.World.{AsSocket, File, Plain, Socket, World}
 use Rattle.af_base.specs.Changes.{closed, file_with, shut, with_socket}
 use Rattle.af_base.specs.Counts.{charged, total}
 use Rattle.af_base.specs.Places.{queue_at, table_at}
-use Rattle.af_base.specs.Refusals.{RefusalRow, first_fit, is_deaf, is_hung_up, on_charge, on_input, on_parts, on_peer, on_room, peer_of, process_at, refusal, socket_of}
+use Rattle.af_base.specs.Refusals.{RefusalRow, connected_to, first_fit, ino_on, is_datagram, is_deaf, is_hung_up, on_charge, on_input, on_parts, on_peer, on_room, on_target, peer_of, process_at, refusal, socket_at, socket_of}
 use Rattle.af_base.specs.Steps.{Outcome, closes_input, closes_output, effect, with_shut}
 use Rattle.af_base.proofs.AllowedSteps.{get-change_at}
 use Rattle.af_base.proofs.Lookups.{itself, some_same, told_apart}
 use Rattle.af_base.proofs.SoundSteps.{passes-on}
 use Rattle.af_laws.proofs.Outcomes.{settled_stays}
+use Rattle.af_laws.proofs.Peers.{peer-takes}
 use Rattle.af_laws.proofs.Polls.{left, socket-is}
 use Rattle.af_laws.proofs.Shutdowns.{shut_settled}
 use Rattle.af_laws.proofs.SocketChanges.{file_of_socket}
-use Rattle.af_laws.proofs.SocketWalks.{AllowsEvent, AllowsStep, Have, IsLasting, have_event}
+use Rattle.af_laws.proofs.SocketWalks.{AllowsEvent, AllowsKind, AllowsStep, Have, IsLasting, have_event}
 use Rattle.af_laws.specs.Shutting.{ClosesEnds, NothingIsSentThroughAClosedEnd, ShutEndsStayShut, ShutdownClosesEnds, StayShut, ends_at}
 
 -- The ends of a socket that are closed, if a file is one.
@@ -78,11 +80,12 @@ pub shutdown_closes_ends : ShutdownClosesEnds
 shutdown_closes_ends old new p n f how s settled stands is two h =
     subst (λ w. ClosesEnds old w f q how) (sym led) (closes_ends old f q how two) where
       q : ℕ
-      q = peer_of s.state
+      q = connected_to s.state
 
       -- The effect, of what was looked up.
       same : effect old p (step.Shutdown n how) ≡ with_shut old f q how
-      same = λ i. with_shut old (unwrap_or (stands i) 0) (peer_of (socket-is old p n f s stands is i).state) how
+      same = λ i. with_shut old (unwrap_or (stands i) 0)
+          (connected_to (socket-is old p n f s stands is i).state) how
 
       done : Outcome None true reply.Ok (with_shut old f q how) old reply.Ok new
       done = subst (λ w. Outcome None true reply.Ok w old reply.Ok new) same (subst (λ o. Outcome o true reply.Ok (effect old p (step.Shutdown n how)) old reply.Ok new) (left old p n f s stands is (λ x. [])) h)
@@ -96,9 +99,10 @@ or_closed true = refl
 or_closed false = refl
 
 pub nothing_is_sent_through_a_closed_end : NothingIsSentThroughAClosedEnd
-nothing_is_sent_through_a_closed_end w p n f bytes attach s stands is talks valid = record {
+nothing_is_sent_through_a_closed_end w p n f bytes attach s whole stands is talks valid = record {
   output = λ shut_output. looked_up ∙ ap (λ b. first_fit (rest b)) (ap (λ b. is_hung_up s.state || b) shut_output ∙ or_closed (is_hung_up s.state));
-  input = λ deaf free. looked_up ∙ refused_by_input deaf free (is_hung_up s.state || s.ends.no_output);
+  input = λ deaf free. looked_up
+      ∙ refused_by_input deaf free (is_hung_up s.state) refl s.ends.no_output;
 } where
   q : ℕ
   q = peer_of s.state
@@ -111,19 +115,37 @@ nothing_is_sent_through_a_closed_end w p n f bytes attach s stands is talks vali
   last : RefusalRow
   last = on_input (is_deaf w q) ++ on_room (queue_at w q)
 
+  -- The tests of the peer.
+  there : RefusalRow
+  there = (nat_eq q 0, ENOTCONN) ∷ on_target f (socket_at w q)
+
   -- The tests of a connected socket, where this is whether nothing can leave it.
   rest : Bool → RefusalRow
-  rest b = (b, EPIPE) ∷ (charge ++ last)
+  rest b = (b, EPIPE) ∷ (there ++ charge ++ last)
 
   looked_up : refusal w p (step.Send n bytes attach) ≡ first_fit (rest (is_hung_up s.state || s.ends.no_output))
-  looked_up = left w p n f s stands is (λ x. on_parts (table_at w p) bytes attach ++ on_peer x ++ charge ++ on_input (is_deaf w (peer_of x.state)) ++ on_room (queue_at w (peer_of x.state)))
-      ∙ passes-on (on_parts (table_at w p) bytes attach) (on_peer s ++ charge ++ last) valid
-      ∙ (λ i. first_fit ((not (talks i), ENOTCONN) ∷ rest (is_hung_up s.state || s.ends.no_output)))
+  looked_up = left w p n f s stands is (λ x. on_parts (table_at w p) bytes attach ++ on_peer x
+      ++ on_target (ino_on w p n) (socket_at w (peer_of x.state)) ++ charge
+      ++ on_input (is_deaf w (peer_of x.state)) ++ on_room (queue_at w (peer_of x.state)))
+      ∙ passes-on (on_parts (table_at w p) bytes attach) (on_peer s
+      ++ on_target (ino_on w p n) (socket_at w q) ++ charge ++ last) valid
+      ∙ (λ i. first_fit ((not (talks i || is_datagram s.kind), ENOTCONN) ∷ (
+        is_hung_up s.state
+            || s.ends.no_output,
+        EPIPE,
+      ) ∷ (
+        nat_eq q 0,
+        ENOTCONN,
+      ) ∷ on_target (unwrap_or (stands i) 0) (socket_at w q) ++ charge ++ last))
 
   refused_by_input : is_deaf w q ≡ true → first_fit charge ≡ None → (b : Bool)
-      → first_fit (rest b) ≡ Some EPIPE
-  refused_by_input deaf free true = refl
-  refused_by_input deaf free false = passes-on charge last free ∙ (λ i. first_fit ((deaf i, EPIPE) ∷ on_room (queue_at w q)))
+      → is_hung_up s.state ≡ b → (c : Bool) → first_fit (rest (b || c)) ≡ Some EPIPE
+  refused_by_input deaf free true up c = refl
+  refused_by_input deaf free false up true = refl
+  refused_by_input deaf free false up false =
+      passes-on there (charge ++ last) (peer-takes w f s whole (file_of_socket w f s is) talks up)
+      ∙ passes-on charge last free
+      ∙ (λ i. first_fit ((deaf i, EPIPE) ∷ on_room (queue_at w q)))
 
 pub shut_ends_stay_shut : ShutEndsStayShut
 shut_ends_stay_shut old new e r whole h f x y was is = have_event old.world.next_ino Shut lasts old new e r (allows e) (omega arith) before h f y (file_of_socket new.world f y is) refl where
@@ -136,9 +158,14 @@ shut_ends_stay_shut old new e r whole h f x y was is = have_event old.world.next
 
   lasts : IsLasting old.world.next_ino Shut
   lasts = record {
-    made = λ k s low opened same. let known = whole.files_numbered f (ap is_some there) in absurd (omega (arith, known, low, same));
-    stays = λ k s t same h e. subst (StayShut x.ends) (sym same) (h e);
+    made = λ k s low made kind same. let known = whole.files_numbered f (ap is_some there) in
+        absurd (omega (arith, known, low, same));
+    stays = λ k s t same h e. subst (StayShut x.ends) (sym same.ends) (h e);
   }
+
+  fresh : (kind : SockType) → AllowsKind old.world.next_ino Shut kind
+  fresh kind k s low made is same = let known = whole.files_numbered f (ap is_some there) in
+      absurd (omega (arith, known, low, same))
 
   before : Have Shut old.world.files
   before k s e same = subst (λ (z : Socket). StayShut x.ends z.ends) (some_same x s (ap (λ o. option_and_then socket_of o) (sym there ∙ ap (map.get old.world.files) (sym same) ∙ e))) (record { input = λ c. c; output = λ c. c })
@@ -152,11 +179,13 @@ shut_ends_stay_shut old new e r whole h f x y was is = have_event old.world.next
     output = λ c. more s.ends.no_output output ((h e).output c);
   }
 
-  step_allows : (s : Step) → AllowsStep Shut s
+  step_allows : (s : Step) → AllowsStep old.world.next_ino Shut s
   step_allows (step.Shutdown n how) = closes
+  step_allows (step.Pair kind) = fresh kind
+  step_allows (step.Socket kind) = fresh kind
   step_allows s = tt
 
-  allows : (e : Event) → AllowsEvent Shut e
+  allows : (e : Event) → AllowsEvent old.world.next_ino Shut e
   allows (event.Proc p s) = step_allows s
   allows (event.Spawn uid nofile privileged) = tt
   allows event.Begin = tt

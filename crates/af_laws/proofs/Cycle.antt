@@ -23,7 +23,7 @@ use Rattle.af_base.specs.Counts.{charge, charged, count_in, tabled, total_of}
 use Rattle.af_base.specs.Unheld.{Goes, IsSettled, Settles}
 use Rattle.af_base.specs.Reached.{BySocket, ByTable, Garbage, IsGarbageCount, Reached, is_socket}
 use Rattle.af_base.specs.Table.{free_numbers}
-use Rattle.af_base.specs.Changes.{change_at, file_with, install, push_message, uninstall}
+use Rattle.af_base.specs.Changes.{change_at, file_with, install, push_message, sends_elsewhere, uninstall}
 use Rattle.af_base.specs.Refusals.{RefusalRow, first_fit, ino_on, is_deaf, no_process, no_socket, on_peer, peer_of, process_at, refusal, socket_at, socket_of, socket_on, spawn_row, step_row}
 use Rattle.af_base.specs.Steps.{Outcome, ProcessStep, SpawnStep, answer, effect, free_at, spawned}
 use Rattle.af_base.specs.Pass.{Idle, Machine}
@@ -294,6 +294,18 @@ sends = outcome_done _ false (answer paired 1 send_step) (reply.Sent 2) (effect 
   talks : NoneFits (on_peer (socket_on paired 1 1))
   talks = none-fits (on_peer (socket_on paired 1 1)) (ap (λ s. first_fit (on_peer s)) socket_two)
 
+  is_there : is_none (socket_at paired (peer_of (socket_on paired 1 1).state)) ≡ false
+  is_there = ap (λ s. is_none (socket_at paired (peer_of s.state))) socket_two
+      ∙ ap (λ o. is_none (option_and_then socket_of o)) (file_at [] 1)
+
+  takes : option_map_or (λ t. sends_elsewhere (ino_on paired 1 1) t.state)
+      (socket_at paired (peer_of (socket_on paired 1 1).state)) false ≡ false
+  takes =
+      ap (λ s. option_map_or (λ t. sends_elsewhere (ino_on paired 1 1) t.state)
+      (socket_at paired (peer_of s.state)) false) socket_two
+      ∙ ap (λ o. option_map_or (λ t. sends_elsewhere (ino_on paired 1 1) t.state)
+      (option_and_then socket_of o) false) (file_at [] 1)
+
   fits : refusal paired 1 send_step ≡ None
   fits = none_fits ((not (map.contains_key paired.processes 1), ESRCH) ∷ step_row paired 1 send_step) (
     not_missing both_open (ends []) 3,
@@ -312,14 +324,33 @@ sends = outcome_done _ false (answer paired 1 send_step) (reply.Sent 2) (effect 
                 (
                   talks.rest.here,
                   (
-                    ap (λ q. nat_lt 0 1 && (not q.privileged && nat_lt q.limit (charged paired q.user))) user ∙ ap (λ n. nat_lt 0 1 && (not false && nat_lt 16 n)) (total_ends [] (λ x. sum_by (charge 1000) (queue_of x))),
+                    talks.rest.rest.here,
                     (
-                      ap (λ n. nat_lt MAX_INFLIGHT (n + 1)) (total_ends [] (λ x. sum_by (λ m. length m.attached) (queue_of x))),
+                      is_there,
                       (
-                        ap (λ s. is_deaf paired (peer_of s.state)) socket_two ∙ ap (λ o. option_map_or (λ s. s.ends.no_input) (option_and_then socket_of o) false) (file_at [] 1),
+                        takes,
                         (
-                          ap (λ s. nat_le MAX_MESSAGES (length (queue_at paired (peer_of s.state)))) socket_two ∙ ap (λ o. nat_le MAX_MESSAGES (length (option_map_or queue_of o []))) (file_at [] 1),
-                          tt,
+                          ap (λ q. nat_lt 0 1 && (not q.privileged
+                              && nat_lt q.limit (charged paired q.user))) user
+                              ∙ ap (λ n. nat_lt 0 1
+                              && (not false && nat_lt 16 n))
+                              (total_ends [] (λ x. sum_by (charge 1000) (queue_of x))),
+                          (
+                            ap (λ n. nat_lt MAX_INFLIGHT (n + 1))
+                                (total_ends [] (λ x. sum_by (λ m. length m.attached) (queue_of x))),
+                            (
+                              ap (λ s. is_deaf paired (peer_of s.state)) socket_two
+                                  ∙ ap (λ o. option_map_or (λ s. s.ends.no_input)
+                                  (option_and_then socket_of o) false) (file_at [] 1),
+                              (
+                                ap (λ s. nat_le MAX_MESSAGES
+                                    (length (queue_at paired (peer_of s.state)))) socket_two
+                                    ∙ ap (λ o. nat_le MAX_MESSAGES
+                                    (length (option_map_or queue_of o []))) (file_at [] 1),
+                                tt,
+                              ),
+                            ),
+                          ),
                         ),
                       ),
                     ),

@@ -18,7 +18,7 @@ use Rattle.af_base.specs.Places.{Holds, InTable, contents, queue_at, queue_of, t
 use Rattle.af_base.specs.Counts.{charge, charged, total, total_of}
 use Rattle.af_base.specs.Unheld.{IsSettled, Settles, file_without, map_entries, without}
 use Rattle.af_base.specs.Reached.{ByTable, IsGarbageCount, is_socket}
-use Rattle.af_base.specs.Refusals.{RefusalRow, first_fit, ino_on, is_deaf, no_socket, on_charge, on_input, on_peer, on_room, peer_of, process_at, refusal, socket_at, socket_of, socket_on}
+use Rattle.af_base.specs.Refusals.{RefusalRow, first_fit, ino_on, is_deaf, no_socket, on_charge, on_input, on_peer, on_room, on_target, peer_of, process_at, refusal, socket_at, socket_of, socket_on}
 use Rattle.af_base.specs.Steps.{Outcome, ProcessStep, answer, effect}
 use Rattle.af_base.specs.Pass.{Idle, Machine, PassesWhole, Purges, emptied, empty_file}
 use Rattle.af_base.proofs.Sums.{total-insert}
@@ -145,7 +145,10 @@ abbrev later : RefusalRow
 later =
     let q = process_at collected 1 in
     let s = socket_on collected 1 1 in
-    on_charge (charged collected q.user) (total collected) q.limit q.privileged 0 ++ on_input (is_deaf collected (peer_of s.state)) ++ on_room (queue_at collected (peer_of s.state))
+    on_target (ino_on collected 1 1) (socket_at collected (peer_of s.state))
+    ++ on_charge (charged collected q.user) (total collected) q.limit q.privileged 0
+    ++ on_input (is_deaf collected (peer_of s.state))
+    ++ on_room (queue_at collected (peer_of s.state))
 
 -- A send by the second is EPIPE.
 hung_up : ProcessStep collected 1 send_step (reply.Refused EPIPE) collected

@@ -24,8 +24,12 @@ pub mod Peeks
 pub mod Polls
 pub mod FreedPeriods
 pub mod SocketChanges
+pub mod Peers
 pub mod Shutdowns
 pub mod SocketWalks
 pub mod ClosedEnds
 pub mod OldWorlds
 pub mod OldReadings
+pub mod Targets
+pub mod FreedNumbers
+pub mod NoConnections

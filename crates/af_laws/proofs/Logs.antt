@@ -169,6 +169,16 @@ pub ok_is_done : is_refused reply.Ok ≡ false
 unfolding is_refused
 ok_is_done = refl
 
+-- A sent message is no refusal.
+pub sent_is_done : (n : ℕ) → is_refused (reply.Sent n) ≡ false
+unfolding is_refused
+sent_is_done n = refl
+
+-- An end is no refusal.
+pub end_is_done : is_refused reply.End ≡ false
+unfolding is_refused
+end_is_done = refl
+
 -- A descriptor is no refusal.
 pub number_is_done : (n : ℕ) → is_refused (reply.Fd n) ≡ false
 unfolding is_refused

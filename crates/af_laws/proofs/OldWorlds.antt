@@ -1,5 +1,5 @@
 -- Old worlds stay old.
-use Rattle.std.proofs.Common.{◌≡◌, inl, inr, ℕ, List, [], ◌∷◌, sym, ap, ◌∙◌, subst, arith}
+use Rattle.std.proofs.Common.{◌≡◌, inl, inr, ℕ, false, refl, List, [], ◌∷◌, sym, ap, ◌∙◌, subst, arith}
 use Rattle.std.specs.List.{All}
 use Rattle.std.specs.Ordering.{nat_cmp}
 use Rattle.std.specs.FinMap as map
@@ -7,42 +7,71 @@ use Rattle.std.proofs.lemmas.List.Elements.{All-head, All-tail}
 use Rattle.af_base.specs.declared.events.Event.{Event}
 use Rattle.af_base.specs.declared.events.Event.TheVariants as event
 use Rattle.af_base.specs.declared.events.Reply.{Reply}
+use Rattle.af_base.specs.declared.events.State.{State}
+use Rattle.af_base.specs.declared.events.State.TheVariants as state
 use Rattle.af_base.specs.declared.events.Step.{Step}
 use Rattle.af_base.specs.declared.events.Step.TheVariants as step
 use Rattle.af_base.specs.World.{AsSocket, Socket, World}
 use Rattle.af_base.specs.Pass.{Begins, GoesOn, Idle, Machine, Pass, PassesWhole, Running}
 use Rattle.af_base.specs.Run.{RunEntry, Step as MachineStep}
+use Rattle.af_base.specs.Refusals.{is_datagram}
 use Rattle.af_base.specs.Steps.{effect}
 use Rattle.af_base.proofs.Lookups.{none_some}
 use Rattle.af_base.proofs.PurgedWorlds.{slice-by}
-use Rattle.af_laws.proofs.SocketWalks.{AllowsEvent, AllowsStep, IsLasting, have_effect, have_event}
+use Rattle.af_base.proofs.TypedFiles.{has_target, not_sending}
+use Rattle.af_laws.proofs.SocketWalks.{AllowsEvent, AllowsStep, IsLasting, IsMade, have_effect, have_event}
 use Rattle.af_laws.specs.Keeping.{AreOld, FreshIsOld, IsOldEvent, IsOldMachine, IsOldSocket, IsOldStep, OldWorldsStayOld}
 
--- Open ends last.
-old_lasts : IsLasting 0 (λ f s. IsOldSocket s)
-old_lasts = record {
-  made = λ f x low opened. record { ends = opened };
-  stays = λ f x y same h. record { ends = same ∙ h.ends };
+-- A state that is no target's has none.
+aimless : (t : State) → ((q : ℕ) → ¬ (t ≡ state.Sends q)) → has_target t ≡ false
+aimless state.Idle none = refl
+aimless (state.Listening b) none = refl
+aimless (state.Connected p) none = refl
+aimless state.HungUp none = refl
+aimless (state.Sends q) none = absurd (none q refl)
+
+-- A new socket for connections is old.
+made_old : (x : Socket) → IsMade x → is_datagram x.kind ≡ false → IsOldSocket x
+made_old x made kind = record {
+  ends = made.ends;
+  kind = kind;
+  target = λ q e. not_sending x.state q (made.aimless kind) e;
 }
 
--- An old step is no shutdown.
-old_step : (P : ℕ → Socket → Type 0) (s : Step) → IsOldStep s → AllowsStep P s
-old_step P (step.Shutdown n how) h = absurd h
-old_step P s h = tt
+-- Open ends, the type and the want of a target last.
+old_lasts : IsLasting 0 (λ f s. IsOldSocket s)
+old_lasts = record {
+  made = λ f x low made kind. made_old x made (elim kind [
+    | inl e ↦ e
+    | inr z ↦ ap is_datagram (sym z.3) ∙ z.2.kind
+  ]);
+  stays = λ f x y same h. record {
+    ends = same.ends ∙ h.ends;
+    kind = ap is_datagram same.kind ∙ h.kind;
+    target = λ q e. not_sending y.state q (same.aimless h.kind (aimless x.state h.target)) e;
+  };
+}
+
+-- An old step is no shutdown, and makes no datagram socket.
+old_step : (s : Step) → IsOldStep s → AllowsStep 0 (λ f x. IsOldSocket x) s
+old_step (step.Shutdown n how) h = absurd h
+old_step (step.Pair kind) h = λ f x low made is. made_old x made (ap is_datagram is ∙ h)
+old_step (step.Socket kind) h = λ f x low made is. made_old x made (ap is_datagram is ∙ h)
+old_step s h = tt
 
 -- The same of an old event.
-old_event : (P : ℕ → Socket → Type 0) (e : Event) → IsOldEvent e → AllowsEvent P e
-old_event P (event.Proc p s) h = old_step P s h
-old_event P (event.Spawn uid nofile privileged) h = tt
-old_event P event.Begin h = tt
-old_event P (event.Slice b) h = tt
-old_event P event.Pass h = tt
+old_event : (e : Event) → IsOldEvent e → AllowsEvent 0 (λ f x. IsOldSocket x) e
+old_event (event.Proc p s) h = old_step s h
+old_event (event.Spawn uid nofile privileged) h = tt
+old_event event.Begin h = tt
+old_event (event.Slice b) h = tt
+old_event event.Pass h = tt
 
 -- The effect of an old step on an old world is old.
 pub effect_old : (w : World) (p : ℕ) (s : Step) → IsOldStep s → AreOld w.files
     → AreOld (effect w p s).files
 effect_old w p s old =
-    have_effect 0 (λ f x. IsOldSocket x) old_lasts w p s (old_step _ s old) (omega arith)
+    have_effect 0 (λ f x. IsOldSocket x) old_lasts w p s (old_step s old) (omega arith)
 
 -- No event changes since when changes are listed.
 module _ (old new : Machine) (r : Reply) where
@@ -72,7 +101,8 @@ module _ (old new : Machine) (r : Reply) where
 pub event_old : (old new : Machine) (e : Event) (r : Reply) → IsOldMachine old → IsOldEvent e
     → MachineStep old e r new → IsOldMachine new
 event_old old new e r is was h = record {
-  world = have_event 0 (λ f x. IsOldSocket x) old_lasts old new e r (old_event _ e was) (omega arith) is.world h;
+  world = have_event 0 (λ f x. IsOldSocket x) old_lasts old new e r (old_event e was)
+      (omega arith) is.world h;
   since = subst (λ s. AreOld s.files) (sym (event_since old new r e h)) is.since;
 }
 

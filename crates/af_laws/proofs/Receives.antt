@@ -8,7 +8,7 @@ use Rattle.std.proofs.lemmas.List.{append_assoc, drop-drop, length-drop, length-
 use Rattle.std.proofs.Math.Seq.{take-add}
 use Rattle.std.proofs.lemmas.List.Elements.{recursion_from_All}
 use Rattle.af_base.specs.declared.events.SockType.{SockType}
-use Rattle.af_base.specs.declared.events.SockType.TheVariants.{Seqpacket, Stream}
+use Rattle.af_base.specs.declared.events.SockType.TheVariants.{Dgram, Seqpacket, Stream}
 use Rattle.af_base.specs.World.{Message}
 use Rattle.af_base.specs.Places.{attached_in}
 use Rattle.af_base.specs.Take.{TakeResult, cut, has_files, joined, take_from, take_stream}
@@ -36,6 +36,8 @@ have-cut c (m ∷ q) h = by (have-cut (c - length m.bytes) q h.1) (nat_le (lengt
 have-rest : (kind : SockType) (q : List Message) (n : ℕ) → HaveBytes q → HaveBytes (take_from kind q n).rest
 have-rest Seqpacket [] n h = h
 have-rest Seqpacket (m ∷ q) n h = h.1
+have-rest Dgram [] n h = h
+have-rest Dgram (m ∷ q) n h = h.1
 have-rest Stream q n h = by (find has_files q) where
   by : (o : Option Message) → HaveBytes (up_to q n o).rest
   by None = have-cut _ q h
@@ -44,6 +46,7 @@ have-rest Stream q n h = by (find has_files q) where
 -- One receive loses no file.
 one-keeps : (kind : SockType) (q : List Message) (n : ℕ) → HaveBytes q → (take_from kind q n).attached ++ attached_in (take_from kind q n).rest ≡ attached_in q
 one-keeps Seqpacket q n h = packet_keeps_files q n
+one-keeps Dgram q n h = packet_keeps_files q n
 one-keeps Stream q n h = stream-files q n h
 
 -- Receives keep all files.

@@ -2,18 +2,15 @@
 use Rattle.std.proofs.Common.{◌≡◌, ℕ, ◌+◌, false, not, ◌||◌, List, [], ◌∷◌, length, refl, sym, ap, ◌∙◌, cond, arith}
 use Rattle.std.specs.Prelude.{Option, Some, None, is_none, filter_map, nat_eq}
 use Rattle.std.specs.List.{cons_option, list_any}
-use Rattle.std.specs.Option.{option_map_or}
 use Rattle.std.specs.FinMap as map
 use Rattle.std.proofs.lemmas.Bool.{false≢true}
 use Rattle.af_base.specs.declared.errno.Errno.TheVariants.{ESRCH}
-use Rattle.af_base.specs.declared.events.State.TheVariants as state
 use Rattle.af_base.specs.declared.events.Step.TheVariants as step
 use Rattle.af_base.specs.World.{Message, World}
 use Rattle.af_base.specs.Places.{table_at}
 use Rattle.af_base.specs.Counts.{charged}
-use Rattle.af_base.specs.Refusals.{ino_on, peer_of, process_at, socket_on, step_row}
-use Rattle.af_base.specs.Whole.{state_at, state_of}
-use Rattle.af_base.proofs.SoundSteps.{connected-socket, connected-to, none-fits, socket-there}
+use Rattle.af_base.specs.Refusals.{peer_of, process_at, socket_on, step_row}
+use Rattle.af_base.proofs.SoundSteps.{none-fits, target-there}
 use Rattle.af_laws.proofs.PlaceCounts.{charged-push}
 use Rattle.af_laws.specs.Stepping.{SendIsChargedToItsSender}
 
@@ -30,10 +27,7 @@ send_is_charged_to_its_sender w p n u bytes attach whole fits =
     let row = none-fits ((not (map.contains_key w.processes p), ESRCH) ∷ step_row w p (step.Send n bytes attach)) fits in
     let given = row.rest in
     let tabled = given.rest.rest.rest.rest in
-    let connected = tabled.rest in
-    let f = ino_on w p n in
     let s = socket_on w p n in
-    let to : state_at w f ≡ state.Connected (peer_of s.state) = ap (λ o. option_map_or state_of o state.Idle) (socket-there w p n given.here given.rest.here) ∙ connected-to s connected in
-    let peer = connected-socket w (peer_of s.state) f (whole.peers f (peer_of s.state) to) in
+    let peer = target-there w (peer_of s.state) tabled.rest.rest.rest.rest.here in
     let sent : Message = record { bytes = bytes; attached = filter_map (table_at w p) attach; user = (process_at w p).user } in
     charged-push w (peer_of s.state) u sent peer.0 peer.1 ∙ ap (λ k. charged w u + cond (nat_eq u (process_at w p).user) k 0) (attached-all w p attach tabled.here)

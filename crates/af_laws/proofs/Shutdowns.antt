@@ -18,7 +18,7 @@ use Rattle.af_base.specs.World.{AsSocket, File, Message, Plain, Socket, World}
 use Rattle.af_base.specs.Changes.{file_with, shut, with_socket}
 use Rattle.af_base.specs.Names.{is_between}
 use Rattle.af_base.specs.Places.{backlog_of, queue_of, table_at}
-use Rattle.af_base.specs.Refusals.{first_fit, ino_on, is_connected, is_hung_up, no_socket, on_receive, peer_of, process_at, refusal, socket_at, socket_of, socket_on}
+use Rattle.af_base.specs.Refusals.{connected_to, first_fit, ino_on, is_datagram, is_ended, is_hung_up, is_linked, no_socket, on_receive, process_at, refusal, socket_at, socket_of, socket_on}
 use Rattle.af_base.specs.Steps.{Outcome, ProcessStep, closes_input, closes_output, effect, got_at, taken_on, with_shut}
 use Rattle.af_base.specs.Table.{lowest_free}
 use Rattle.af_base.specs.Take.{TakeResult, take_from}
@@ -176,8 +176,10 @@ module _ (w : World) (f q : ℕ) (how : Shutdown) where
       answered = λ i. given (kind i) (queue i);
       refused = λ some.
           let there = alike_at (λ o. is_none (option_and_then socket_of o)) (λ x e. refl) (ino_on w p n) in
-          let talks = alike_on (λ x. not (is_connected x.state)) (λ x e. refl) p n in
-          let nothing : (v : World) → nat_eq (length (socket_on v p n).queue) 0 ≡ false → (nat_eq (length (socket_on v p n).queue) 0 && not (is_hung_up (socket_on v p n).state || (socket_on v p n).ends.no_input)) ≡ false = λ v e. ap (λ b. b && not (is_hung_up (socket_on v p n).state || (socket_on v p n).ends.no_input)) e in
+          let talks = alike_on (λ x. not (is_linked x)) (λ x e. refl) p n in
+          let nothing : (v : World) → nat_eq (length (socket_on v p n).queue) 0 ≡ false
+          → (nat_eq (length (socket_on v p n).queue) 0 && not (is_ended (socket_on v p n)))
+          ≡ false = λ v e. ap (λ b. b && not (is_ended (socket_on v p n))) e in
           let wait = nothing now (ap (λ ms. nat_eq (length ms) 0) queue ∙ waits some) ∙ sym (nothing w (waits some)) in
           λ i. first_fit ((not (map.contains_key w.processes p), ESRCH) ∷ (is_none (table_at w p n), EBADF) ∷ (there i, ENOTSOCK) ∷ (not (is_between 1 MAX_BYTES max_bytes), EINVAL) ∷ (talks i, ENOTCONN) ∷ (wait i, EAGAIN) ∷ []);
     }
@@ -192,14 +194,25 @@ shutdown_keeps : (P : World → Type 0) (old new : World) (p n : ℕ) (how : Shu
     → IsSettled old → P old → P (effect old p (step.Shutdown n how))
     → ProcessStep old p (step.Shutdown n how) r new → P new
 shutdown_keeps P old new p n how r settled was is =
-    leads P (refusal old p (step.Shutdown n how)) true reply.Ok (effect old p (step.Shutdown n how)) old r new was (λ none. (shut_settled old (ino_on old p n) (peer_of (socket_on old p n).state) how settled, is))
+    leads P (refusal old p (step.Shutdown n how)) true reply.Ok
+    (effect old p (step.Shutdown n how)) old r new was
+    (λ none. (
+      shut_settled old (ino_on old p n) (connected_to (socket_on old p n).state) how
+          settled,
+      is,
+    ))
 
 pub shutdown_changes_no_place : ShutdownChangesNoPlace
-shutdown_changes_no_place old new p n how r settled = shutdown_keeps (SamePlaces old) old new p n how r settled (same_places old) (shut_places old (ino_on old p n) (peer_of (socket_on old p n).state) how)
+shutdown_changes_no_place old new p n how r settled =
+    shutdown_keeps (SamePlaces old) old new p n how r settled (same_places old)
+    (shut_places old (ino_on old p n) (connected_to (socket_on old p n).state) how)
 
 pub what_waits_is_received_after_shutdown : WhatWaitsIsReceivedAfterShutdown
 what_waits_is_received_after_shutdown old new p n how r settled h q m max_bytes max_fds =
-    shutdown_keeps (λ v. ReceivesAlike old v q m max_bytes max_fds) old new p n how r settled (received_itself old q m max_bytes max_fds) (received_alike old (ino_on old p n) (peer_of (socket_on old p n).state) how q m max_bytes max_fds) h
+    shutdown_keeps (λ v. ReceivesAlike old v q m max_bytes max_fds) old new p n how r settled
+    (received_itself old q m max_bytes max_fds)
+    (received_alike old (ino_on old p n) (connected_to (socket_on old p n).state) how q m
+    max_bytes max_fds) h
 
 pub shutdown_never_fails : ShutdownNeverFails
 shutdown_never_fails old new p n f how s r stands is h =
@@ -217,7 +230,7 @@ module _ (old mid new : World) (p n : ℕ) (how : Shutdown) (settled : IsSettled
 
   -- Its peer.
   abbrev q : ℕ
-  q = peer_of (socket_on old p n).state
+  q = connected_to (socket_on old p n).state
 
   -- The world after the first.
   abbrev done : World
@@ -225,7 +238,8 @@ module _ (old mid new : World) (p n : ℕ) (how : Shutdown) (settled : IsSettled
 
   -- The effect of the second is that world.
   same_effect : effect done p s ≡ done
-  same_effect = ap (λ (g : ℕ). with_shut done f g how) (alike_on old f q how (λ x. peer_of x.state) (λ x e. refl) p n) ∙ shut_again old f q how
+  same_effect = ap (λ (g : ℕ). with_shut done f g how)
+      (alike_on old f q how (λ x. connected_to x.state) (λ x e. refl) p n) ∙ shut_again old f q how
 
   -- So the second leaves it.
   second_stays : IsSettled done → ProcessStep done p s second new → new ≡ done
@@ -249,9 +263,16 @@ never_waits true false = refl
 never_waits false b = refl
 
 pub shut_input_ends : ShutInputEnds
-shut_input_ends w p n f max_bytes max_fds s stands is talks empty shut_input fits = (
+shut_input_ends w p n f max_bytes max_fds s stands is stream talks empty shut_input fits = (
   left w p n f s stands is (λ x. on_receive x max_bytes)
-      ∙ (λ i. first_fit ((not (fits i), EINVAL) ∷ (not (talks i), ENOTCONN) ∷ (nat_eq (length s.queue) 0 && not (is_hung_up s.state || shut_input i), EAGAIN) ∷ []))
+      ∙ (λ i. first_fit ((not (fits i), EINVAL) ∷ (
+        not (talks i || is_datagram s.kind),
+        ENOTCONN,
+      ) ∷ (
+        nat_eq (length s.queue) 0
+            && not (is_hung_up s.state || (shut_input i && not (stream i))),
+        EAGAIN,
+      ) ∷ []))
       ∙ ap (λ b. first_fit ((b, EAGAIN) ∷ [])) (never_waits (nat_eq (length s.queue) 0) (is_hung_up s.state)),
   ap (λ b. if b then reply.End else reply.Got taken.bytes got taken.trunc (nat_lt (length got) (length taken.attached))) none,
 ) where

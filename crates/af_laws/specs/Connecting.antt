@@ -1,5 +1,5 @@
 -- Laws of connections: names, listeners, and the embryos that wait in their backlogs.
-use Rattle.std.specs.Prelude.{◌≡◌, ◌↔◌, ℕ, ◌+◌, List, Some, drop}
+use Rattle.std.specs.Prelude.{◌≡◌, ◌↔◌, ℕ, ◌+◌, false, List, Some, drop}
 use Rattle.af_base.specs.declared.events.Reply.{Reply}
 use Rattle.af_base.specs.declared.events.Reply.TheVariants as reply
 use Rattle.af_base.specs.declared.events.Step.TheVariants as step
@@ -7,7 +7,7 @@ use Rattle.af_base.specs.World.{World, IsLive}
 use Rattle.af_base.specs.Places.{backlog_at, table_at, Holds, InBacklog}
 use Rattle.af_base.specs.Counts.{charged, inflight, one, refs, total, waiting}
 use Rattle.af_base.specs.Names.{named, set_of}
-use Rattle.af_base.specs.Refusals.{ino_named, ino_on, socket_on}
+use Rattle.af_base.specs.Refusals.{ino_named, ino_on, is_datagram, socket_on}
 use Rattle.af_base.specs.Reached.{Reached}
 use Rattle.af_base.specs.Steps.{ProcessStep, first_embryo}
 use Rattle.af_base.specs.Unheld.{IsSettled}
@@ -50,23 +50,27 @@ abbrev pub ListenChangesNoCount : Type 0
 ListenChangesNoCount = (old new : World) (p n b : ℕ) (r : Reply) → IsSettled old
     → ProcessStep old p (step.Listen n b) r new → SameCounts old new
 
--- A connect makes a live embryo; the listener's backlog is its only place (connect(2); the embryo
--- is this project's own).
+-- A connect of a socket for connections makes a live embryo; the listener's backlog is its only
+-- place (connect(2); the embryo is this project's own).
 abbrev pub ConnectMakesAnEmbryo : Type 0
 ConnectMakesAnEmbryo = (old new : World) (p n : ℕ) (name : List ℕ) → IsSound old
+    → is_datagram (socket_on old p n).kind ≡ false
     → ProcessStep old p (step.Connect n name) reply.Ok new
     → IsEmbryoOf new (ino_named old (socket_on old p n).kind name) old.next_ino
 
--- A connect is one reference more to the embryo, and none to any other file; nothing more is in
--- flight.
+-- A connect of a socket for connections is one reference more to the embryo, and none to any other
+-- file; nothing more is in flight.
 abbrev pub ConnectCounts : Type 0
 ConnectCounts = (old new : World) (p n f : ℕ) (name : List ℕ) → IsSound old
+    → is_datagram (socket_on old p n).kind ≡ false
     → ProcessStep old p (step.Connect n name) reply.Ok new
     → (refs new f ≡ refs old f + one f old.next_ino) × (inflight new f ≡ inflight old f)
 
--- A connect charges nobody (unix(7), ETOOMANYREFS: what waits in a backlog was not sent).
+-- A connect of a socket for connections charges nobody (unix(7), ETOOMANYREFS: what waits in a
+-- backlog was not sent).
 abbrev pub ConnectChargesNobody : Type 0
 ConnectChargesNobody = (old new : World) (p n u : ℕ) (name : List ℕ) → IsSound old
+    → is_datagram (socket_on old p n).kind ≡ false
     → ProcessStep old p (step.Connect n name) reply.Ok new
     → (charged new u ≡ charged old u) × (total new ≡ total old)
 

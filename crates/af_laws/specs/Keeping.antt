@@ -2,7 +2,7 @@
 -- definition reads in them as it did before this project added events of its own. The table of
 -- events in docs/DEFINITIONS.md marks these. Definitions here are this project's own; one whose name
 -- ends in `_then` is what the definition was.
-use Rattle.std.specs.Prelude.{◌≡◌, ◌↔◌, ◌||◌, ◌++◌, ℕ, Bool, true, false, not, ◌&&◌, List, [], ◌∷◌, Option, Some, is_none, length, nat_eq, nat_le, option_map, unwrap_or}
+use Rattle.std.specs.Prelude.{◌≡◌, ◌↔◌, ◌||◌, ◌++◌, ◌+◌, ℕ, Bool, true, false, not, ◌&&◌, List, [], ◌∷◌, Option, Some, is_none, length, nat_eq, nat_le, option_map, unwrap_or}
 use Rattle.std.specs.List.{All, find}
 use Rattle.std.specs.Option.{option_and_then, option_map_or}
 use Rattle.std.specs.Str.{bytes_eq}
@@ -13,24 +13,26 @@ use Rattle.af_base.specs.declared.events.Event.{Event}
 use Rattle.af_base.specs.declared.events.Event.TheVariants as event
 use Rattle.af_base.specs.declared.events.Reply.{Reply}
 use Rattle.af_base.specs.declared.events.SockType.{SockType}
+use Rattle.af_base.specs.declared.events.State.TheVariants as state
 use Rattle.af_base.specs.declared.events.Step.{Step}
 use Rattle.af_base.specs.declared.events.Step.TheVariants as step
-use Rattle.af_base.specs.declared.limits.TheConstants.{MAX_BYTES}
+use Rattle.af_base.specs.declared.limits.TheConstants.{MAX_BACKLOG, MAX_BYTES}
 use Rattle.af_base.specs.declared.ready.Ready.{Ready}
 use Rattle.af_base.specs.World.{AsSocket, File, Map, Message, Plain, Socket, World, open_ends}
+use Rattle.af_base.specs.Changes.{add_file, install}
 use Rattle.af_base.specs.Counts.{charged, total}
 use Rattle.af_base.specs.Names.{is_between, named, set_of}
 use Rattle.af_base.specs.Pass.{Machine, SamePass}
 use Rattle.af_base.specs.Places.{queue_at, queue_in, table_at}
 use Rattle.af_base.specs.Ready.{found, ready_in}
-use Rattle.af_base.specs.Refusals.{RefusalRow, at_socket, first_fit, is_connected, is_hung_up, ino_on, is_listening, is_same_type, no_socket, on_accept, on_bind, on_charge, on_client, on_files, on_name, on_parts, on_process, on_room, peer_of, process_at, refusal, room_of, socket_at, socket_on, step_row}
+use Rattle.af_base.specs.Refusals.{RefusalRow, at_socket, first_fit, is_connected, is_datagram, is_hung_up, ino_on, is_listening, is_same_type, no_socket, on_bind, on_charge, on_client, on_files, on_free, on_name, on_parts, on_process, on_room, peer_of, process_at, refusal, room_of, socket_at, socket_on, step_row}
 use Rattle.af_base.specs.Run.{Run, RunEntry, Step as MachineStep, fresh}
-use Rattle.af_base.specs.Steps.{Outcome, answer, effect, needs_no_memory, with_embryo}
-use Rattle.af_base.specs.Whole.{bound_at, name_at}
+use Rattle.af_base.specs.Steps.{Outcome, answer, connected_socket, effect, free_at, needs_no_memory, with_embryo}
+use Rattle.af_base.specs.Whole.{IsSound, IsWhole, bound_at, name_at}
 
 -- ---- Old events and old worlds.
 
--- The step is one of the specification's.
+-- The step is one of the specification's: it makes no datagram socket.
 abbrev pub IsOldStep : Step → Type 0
 IsOldStep step.Open = Unit {0}
 IsOldStep (step.Dup n) = Unit {0}
@@ -38,8 +40,8 @@ IsOldStep (step.Dup2 n m) = Unit {0}
 IsOldStep (step.Close n) = Unit {0}
 IsOldStep step.Fork = Unit {0}
 IsOldStep step.Exit = Unit {0}
-IsOldStep (step.Pair kind) = Unit {0}
-IsOldStep (step.Socket kind) = Unit {0}
+IsOldStep (step.Pair kind) = is_datagram kind ≡ false
+IsOldStep (step.Socket kind) = is_datagram kind ≡ false
 IsOldStep (step.Bind n name) = Unit {0}
 IsOldStep (step.Listen n b) = Unit {0}
 IsOldStep (step.Connect n name) = Unit {0}
@@ -49,6 +51,7 @@ IsOldStep (step.Recv n max_bytes max_fds) = Unit {0}
 IsOldStep (step.Peek n max_bytes max_fds) = Unit {0}
 IsOldStep (step.Limit n) = Unit {0}
 IsOldStep (step.Shutdown n how) = ⊥
+IsOldStep (step.Unconnect n) = ⊥
 
 -- The event is one of the specification's.
 abbrev pub IsOldEvent : Event → Type 0
@@ -58,10 +61,12 @@ IsOldEvent event.Begin = Unit {0}
 IsOldEvent (event.Slice b) = Unit {0}
 IsOldEvent event.Pass = Unit {0}
 
--- A socket that is one of the specification's: what it has besides is always the same, since both
--- ends are open.
+-- A socket that is one of the specification's: it is for connections and has no target, and what it
+-- has besides is always the same, since both ends are open.
 pub record IsOldSocket (s : Socket) : Type 0 where
   pub ends : s.ends ≡ open_ends
+  pub kind : is_datagram s.kind ≡ false
+  pub target : (q : ℕ) → ¬ (s.state ≡ state.Sends q)
 
 -- Each socket of these files is old.
 abbrev pub AreOld : Map File → Type 0
@@ -102,6 +107,19 @@ on_listener_then s kind =
     ∷ (nat_le (room_of s.state) (length s.backlog), EAGAIN)
     ∷ []
 
+-- The socket must have a name and be new, and b be a right backlog (listen(2), EINVAL).
+abbrev pub on_listen_then : Socket → ℕ → RefusalRow
+on_listen_then s b = (
+  is_none s.name || is_connected s.state || is_listening s.state
+      || not (is_between 1 MAX_BACKLOG b),
+  EINVAL,
+) ∷ []
+
+-- The socket must listen, and an embryo wait there (accept(2), EINVAL, EAGAIN).
+abbrev pub on_accept_then : Socket → RefusalRow
+on_accept_then s =
+    (not (is_listening s.state), EINVAL) ∷ (nat_eq (length s.backlog) 0, EAGAIN) ∷ []
+
 -- The socket must have something to give to a receive of at most n bytes (recvmsg(2), EINVAL,
 -- ENOTCONN, EAGAIN).
 abbrev pub on_receive_then : Socket → ℕ → RefusalRow
@@ -138,12 +156,15 @@ recv_row_then w p n max_bytes = at_socket w p n ++ on_receive_then (socket_on w 
 abbrev pub step_row_then : World → ℕ → Step → RefusalRow
 step_row_then w p (step.Bind n name) = at_socket w p n ++ on_bind (socket_on w p n) name
     ++ on_name (named_then w.files name)
+step_row_then w p (step.Listen n b) = at_socket w p n ++ on_listen_then (socket_on w p n) b
 step_row_then w p (step.Connect n name) =
     let s = socket_on w p n in
     at_socket w p n
     ++ on_client s.state
     ++ on_listener_then (socket_named_then w name) s.kind
     ++ on_files w 1
+step_row_then w p (step.Accept n) =
+    at_socket w p n ++ on_accept_then (socket_on w p n) ++ on_free (process_at w p) 1
 step_row_then w p (step.Send n bytes attach) =
     let q = process_at w p in
     let s = socket_on w p n in
@@ -162,7 +183,8 @@ refusal_then w p s = first_fit (on_process (map.get w.processes p) ++ step_row_t
 
 -- A receive of a byte from this socket, or an accept at it, is not refused (poll(2), POLLIN).
 abbrev pub reads_then : Socket → Bool
-reads_then s = is_none (first_fit (on_receive_then s 1)) || is_none (first_fit (on_accept s))
+reads_then s =
+    is_none (first_fit (on_receive_then s 1)) || is_none (first_fit (on_accept_then s))
 
 -- This socket has a peer, whose queue, which is this one, has room (poll(2), POLLOUT).
 abbrev pub writes_then : Socket → List Message → Bool
@@ -185,13 +207,22 @@ ready_in_then files f = option_map (ready_of_then files) (map.get files f)
 abbrev pub found_then : World → ℕ → ℕ → Ready
 found_then w p n = record {
   readable = is_none (refusal_then w p (step.Recv n 1 0)) || is_none (first_fit
-      (on_process (map.get w.processes p) ++ (at_socket w p n ++ on_accept (socket_on w p n))));
+      (on_process (map.get w.processes p)
+      ++ (at_socket w p n ++ on_accept_then (socket_on w p n))));
   writable = is_none (refusal_then w p (step.Send n (0 ∷ []) []));
   hung_up = is_hung_up (socket_on w p n).state;
 }
 
+-- The world with two sockets more, connected to each other (socketpair(2)).
+abbrev pub with_pair_then : World → SockType → World
+with_pair_then w kind = add_file (add_file w (AsSocket (connected_socket kind (w.next_ino + 1))))
+    (AsSocket (connected_socket kind w.next_ino))
+
 -- The world after the places were changed, which is then settled, where nothing refuses the step.
 abbrev pub effect_then : World → ℕ → Step → World
+effect_then w p (step.Pair kind) = install
+    (install (with_pair_then w kind) p (free_at w p 0) w.next_ino) p (free_at w p 1)
+    (w.next_ino + 1)
 effect_then w p (step.Connect n name) =
     with_embryo w (ino_on w p n) (ino_named_then w name) (socket_named_then w name).kind
 effect_then w p s = effect w p s
@@ -215,12 +246,13 @@ RunThen old (e ∷ es) new = (mid : Machine) × StepThen old e.0 e.1 mid × RunT
 
 -- ---- What they say is the same.
 
--- These read in this world as they did: refusals and effects of old steps, whom a name finds, which
+-- These read in this world as they did: refusals and effects of old steps, whom a name finds of a
+-- socket for connections, which
 -- files have one name, the readiness of files, and what steps find of it. The effect of an old step
 -- is old again.
 pub record ReadsAsThen (w : World) : Type 0 where
   pub refusals : (p : ℕ) (s : Step) → IsOldStep s → refusal w p s ≡ refusal_then w p s
-  pub names : (kind : SockType) (name : List ℕ)
+  pub names : (kind : SockType) (name : List ℕ) → is_datagram kind ≡ false
       → named w.files (set_of kind) name ≡ named_then w.files name
   pub bindings : (f g : ℕ) → (bound_at w f ≡ bound_at w g) ↔ (name_at w f ≡ name_at w g)
   pub changes : (p : ℕ) (s : Step) → IsOldStep s → effect w p s ≡ effect_then w p s
@@ -228,13 +260,13 @@ pub record ReadsAsThen (w : World) : Type 0 where
   pub readiness : (f : ℕ) → ready_in w.files f ≡ ready_in_then w.files f
   pub findings : (p n : ℕ) → found w p n ≡ found_then w p n
 
--- In an old world each definition reads as it did.
+-- In an old world that is whole, so that peers are there, each definition reads as it did.
 abbrev pub OldWorldsReadAsThen : Type 0
-OldWorldsReadAsThen = (w : World) → IsOldWorld w → ReadsAsThen w
+OldWorldsReadAsThen = (w : World) → IsWhole w → IsOldWorld w → ReadsAsThen w
 
--- Old events have the same runs from an old machine, by the definitions as they are and as they
--- were.
+-- Old events have the same runs from an old machine whose world is sound, by the definitions as
+-- they are and as they were.
 abbrev pub OldRunsAreRunsThen : Type 0
 OldRunsAreRunsThen =
-    (old new : Machine) (log : List RunEntry) → IsOldMachine old → All (λ e. IsOldEvent e.0) log
-    → Run old log new ↔ RunThen old log new
+    (old new : Machine) (log : List RunEntry) → IsSound old.world → IsOldMachine old
+    → All (λ e. IsOldEvent e.0) log → Run old log new ↔ RunThen old log new

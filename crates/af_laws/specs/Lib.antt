@@ -13,3 +13,4 @@ pub mod Polling
 pub mod Telling
 pub mod Shutting
 pub mod Keeping
+pub mod Datagrams

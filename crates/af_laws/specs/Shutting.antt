@@ -1,6 +1,6 @@
 -- Laws of a shutdown: what it closes, what it leaves as it was, and what a send and a receive find
 -- after it. Definitions that name no manual page are of this project's profile (docs/PROFILE.md).
-use Rattle.std.specs.Prelude.{◌≡◌, ◌<◌, ℕ, true, List, [], length, Option, Some, None, option_map}
+use Rattle.std.specs.Prelude.{◌≡◌, ◌<◌, ℕ, true, false, List, [], length, Option, Some, None, option_map}
 use Rattle.af_base.specs.declared.errno.Errno.TheVariants.{EPIPE}
 use Rattle.af_base.specs.declared.events.Ends.{Ends}
 use Rattle.af_base.specs.declared.events.Event.{Event}
@@ -15,7 +15,7 @@ use Rattle.af_base.specs.Counts.{charged, total}
 use Rattle.af_base.specs.Places.{backlog_at, queue_at, table_at}
 use Rattle.af_base.specs.Names.{is_between}
 use Rattle.af_base.specs.Pass.{Machine}
-use Rattle.af_base.specs.Refusals.{first_fit, is_connected, is_deaf, on_charge, on_parts, peer_of, process_at, refusal, socket_at, socket_on}
+use Rattle.af_base.specs.Refusals.{connected_to, first_fit, is_connected, is_datagram, is_deaf, on_charge, on_parts, peer_of, process_at, refusal, socket_at, socket_on}
 use Rattle.af_base.specs.Run.{Step as MachineStep}
 use Rattle.af_base.specs.Steps.{ProcessStep, answer, closes_input, closes_output, taken_on}
 use Rattle.af_base.specs.Unheld.{IsSettled}
@@ -49,8 +49,8 @@ ShutdownNeverFails = (old new : World) (p n f : ℕ) (how : Shutdown) (s : Socke
 abbrev pub ends_at : World → ℕ → Option Ends
 ends_at w f = option_map (λ s. s.ends) (socket_at w f)
 
--- A shutdown of the socket f, whose peer is q, closes these ends of the socket, those of the peer
--- that they meet, and none of another.
+-- A shutdown of the socket f, whose peer is q, or 0 where there is none, closes these ends of the
+-- socket, those of the peer that they meet, and none of another.
 pub record ClosesEnds (old new : World) (f q : ℕ) (how : Shutdown) : Type 0 where
   pub own : ends_at new f
       ≡ option_map (closed (closes_input how) (closes_output how)) (ends_at old f)
@@ -62,9 +62,9 @@ pub record ClosesEnds (old new : World) (f q : ℕ) (how : Shutdown) : Type 0 wh
 -- (shutdown(2)).
 abbrev pub ShutdownClosesEnds : Type 0
 ShutdownClosesEnds = (old new : World) (p n f : ℕ) (how : Shutdown) (s : Socket) → IsSettled old
-    → table_at old p n ≡ Some f → socket_at old f ≡ Some s → ¬ (peer_of s.state ≡ f)
+    → table_at old p n ≡ Some f → socket_at old f ≡ Some s → ¬ (connected_to s.state ≡ f)
     → ProcessStep old p (step.Shutdown n how) reply.Ok new
-    → ClosesEnds old new f (peer_of s.state) how
+    → ClosesEnds old new f (connected_to s.state) how
 
 -- A second shutdown of the same kind changes nothing, whatever both are answered.
 abbrev pub SecondShutdownChangesNothing : Type 0
@@ -103,11 +103,11 @@ WhatWaitsIsReceivedAfterShutdown =
     → (q m max_bytes max_fds : ℕ) → ReceivesAlike old new q m max_bytes max_fds
 
 -- A valid receive from a connected socket with a closed input, where nothing waits, answers End
--- (recvmsg(2)).
+-- (recvmsg(2)); a datagram socket is none.
 abbrev pub ShutInputEnds : Type 0
 ShutInputEnds = (w : World) (p n f max_bytes max_fds : ℕ) (s : Socket) → table_at w p n ≡ Some f
-    → socket_at w f ≡ Some s → is_connected s.state ≡ true → s.queue ≡ []
-    → s.ends.no_input ≡ true → is_between 1 MAX_BYTES max_bytes ≡ true
+    → socket_at w f ≡ Some s → is_datagram s.kind ≡ false → is_connected s.state ≡ true
+    → s.queue ≡ [] → s.ends.no_input ≡ true → is_between 1 MAX_BYTES max_bytes ≡ true
     → (refusal w p (step.Recv n max_bytes max_fds) ≡ None)
     × (answer w p (step.Recv n max_bytes max_fds) ≡ reply.End)
 
@@ -121,10 +121,10 @@ pub record NothingIsSent (w : World) (p n : ℕ) (bytes attach : List ℕ) (s : 
       ≡ None
       → refusal w p (step.Send n bytes attach) ≡ Some EPIPE
 
--- Nothing is sent through a closed end by a send at a connected socket that is valid in its parts
--- (sendmsg(2), EPIPE).
+-- In a whole world nothing is sent through a closed end by a send at a connected socket that is
+-- valid in its parts (sendmsg(2), EPIPE).
 abbrev pub NothingIsSentThroughAClosedEnd : Type 0
 NothingIsSentThroughAClosedEnd = (w : World) (p n f : ℕ) (bytes attach : List ℕ) (s : Socket)
-    → table_at w p n ≡ Some f → socket_at w f ≡ Some s → is_connected s.state ≡ true
+    → IsWhole w → table_at w p n ≡ Some f → socket_at w f ≡ Some s → is_connected s.state ≡ true
     → first_fit (on_parts (table_at w p) bytes attach) ≡ None
     → NothingIsSent w p n bytes attach s

@@ -26,18 +26,19 @@ pub fn listen_changes_no_count()
     ensures { ListenChangesNoCount }
 {}
 
-/// A connect makes a live embryo; the listener's backlog is its only place.
+/// A connect of a socket for connections makes a live embryo; the listener's backlog is its only
+/// place.
 pub fn connect_makes_an_embryo()
     ensures { ConnectMakesAnEmbryo }
 {}
 
-/// A connect is one reference more to the embryo, and none to any other file; nothing more is in
-/// flight.
+/// A connect of a socket for connections is one reference more to the embryo, and none to any other
+/// file; nothing more is in flight.
 pub fn connect_counts()
     ensures { ConnectCounts }
 {}
 
-/// A connect charges nobody.
+/// A connect of a socket for connections charges nobody.
 pub fn connect_charges_nobody()
     ensures { ConnectChargesNobody }
 {}

@@ -12,13 +12,14 @@ pub fn old_worlds_stay_old()
     ensures { OldWorldsStayOld }
 {}
 
-/// In an old world each definition reads as it did before the project added events of its own.
+/// In an old world that is whole each definition reads as it did before the project added events of
+/// its own.
 pub fn old_worlds_read_as_then()
     ensures { OldWorldsReadAsThen }
 {}
 
-/// Old events have the same runs from an old machine, by the definitions as they are and as they
-/// were.
+/// Old events have the same runs from an old machine whose world is sound, by the definitions as
+/// they are and as they were.
 pub fn old_runs_are_runs_then()
     ensures { OldRunsAreRunsThen }
 {}

@@ -3,6 +3,7 @@
 #![tactic(auto)]
 
 pub mod connecting;
+pub mod datagrams;
 pub mod keeping;
 pub mod numbering;
 pub mod peeking;

@@ -37,12 +37,14 @@ pub fn what_waits_is_received_after_shutdown()
     ensures { WhatWaitsIsReceivedAfterShutdown }
 {}
 
-/// A valid receive from a connected socket with a closed input, where nothing waits, answers End.
+/// A valid receive from a connected socket with a closed input, where nothing waits, answers End;
+/// a datagram socket is none.
 pub fn shut_input_ends()
     ensures { ShutInputEnds }
 {}
 
-/// A send through a closed output, or to a closed input of the peer, is refused by EPIPE.
+/// A send through a closed output, or to a closed input of the peer, is refused by EPIPE in a whole
+/// world.
 pub fn nothing_is_sent_through_a_closed_end()
     ensures { NothingIsSentThroughAClosedEnd }
 {}

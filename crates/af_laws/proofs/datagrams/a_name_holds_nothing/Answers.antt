@@ -1,0 +1,5 @@
+use Rattle.af_laws.proofs.Targets.{a_name_holds_nothing}
+use Rattle.af_laws.proofs.datagrams.a_name_holds_nothing.Goals as goal
+
+pub returns : goal.returns
+returns c = a_name_holds_nothing
