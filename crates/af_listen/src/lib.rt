@@ -3,7 +3,9 @@
 #![tactic(auto)]
 
 mod backlog;
+mod name_sets;
 mod names;
 
 pub use backlog::Backlog;
+pub use name_sets::NameSets;
 pub use names::Names;

@@ -46,6 +46,7 @@ impl Names {
     }
 
     /// Gives the file the name, which is free. On an error nothing has changed.
+    #[inline(always)]
     #[tactic(auto, using(crate::proofs::NameMaps::name_changes))]
     pub fn bind(&mut self, name: Vec<u8>, file: FileRef) -> Result<(), AllocError>
         requires free { map.get self.old name.items ≡ None }
