@@ -7,7 +7,7 @@ use Rattle.std.proofs.lemmas.Bool.{cases_lt, leb-false}
 use Rattle.std.proofs.lemmas.List.{length-take}
 use Rattle.std.proofs.lemmas.List.Sums.{sum_by-cons}
 use Rattle.af_base.specs.declared.events.SockType.{SockType}
-use Rattle.af_base.specs.declared.events.SockType.TheVariants.{Seqpacket, Stream}
+use Rattle.af_base.specs.declared.events.SockType.TheVariants.{Dgram, Seqpacket, Stream}
 use Rattle.af_base.specs.World.{Message}
 use Rattle.af_base.specs.Counts.{charge}
 use Rattle.af_base.specs.Take.{cut, has_files, take_from}
@@ -68,13 +68,22 @@ stream-charges u n (m ∷ q) some have = by (λ more. stream-charges u (n - leng
       let left : cut (stream_cut n (m ∷ q)) (m ∷ q) ≡ cut (stream_cut (n - length m.bytes) q) q = cut-rest m q (stream_cut n (m ∷ q)) (omega (arith, is)) ∙ ap (λ k. cut k q) (omega (arith, is)) in
       omega (arith, took, ap (sum_by (charge u)) left, rest more, none, sum_by-cons (charge u) m q)
 
--- The files that a receive takes, and those left, are charged as before.
+-- The files that a receive of a whole packet takes, and those left, are charged as before.
+packet-charges : (u : ℕ) (q : List Message) (n : ℕ)
+    → charge u (received Seqpacket q n).message + sum_by (charge u) (take_from Seqpacket q n).rest
+    ≡ sum_by (charge u) q
+packet-charges u [] n = omega (arith, charged-none u 0 [] refl)
+packet-charges u (m ∷ q) n =
+    let low : length (take n m.bytes) ≤ length m.bytes = omega (arith, length-take n m.bytes) in
+    let all : charged u (sender_at (length (take n m.bytes)) (m ∷ q)) m.attached ≡ charge u m =
+    ap (λ o. charged u (option_map_or (λ m. m.user) o 0) m.attached)
+    (at-front m q (length (take n m.bytes)) low) in
+    omega (arith, all, sum_by-cons (charge u) m q)
+
+-- The same by the socket's type.
 pub charges-taken : (kind : SockType) (q : List Message) (n : ℕ) → 0 < n → HaveBytes q → (u : ℕ) → charge u (received kind q n).message + sum_by (charge u) (take_from kind q n).rest ≡ sum_by (charge u) q
 charges-taken Stream q n some have u =
     ap (λ r. charge u r.message + sum_by (charge u) (take_from Stream q n).rest) (stream-received q n some have)
     ∙ ap (λ t. charged u (sender_at (stream_cut n q) q) (files_in n q) + sum_by (charge u) t.rest) (stream-is q n some have) ∙ stream-charges u n q some have
-charges-taken Seqpacket [] n some have u = omega (arith, charged-none u 0 [] refl)
-charges-taken Seqpacket (m ∷ q) n some have u =
-    let low : length (take n m.bytes) ≤ length m.bytes = omega (arith, length-take n m.bytes) in
-    let all : charged u (sender_at (length (take n m.bytes)) (m ∷ q)) m.attached ≡ charge u m = ap (λ o. charged u (option_map_or (λ m. m.user) o 0) m.attached) (at-front m q (length (take n m.bytes)) low) in
-    omega (arith, all, sum_by-cons (charge u) m q)
+charges-taken Seqpacket q n some have u = packet-charges u q n
+charges-taken Dgram q n some have u = packet-charges u q n

@@ -3,7 +3,7 @@ ghost use Rattle.std.specs.Prelude.{◌≡◌, ◌≢◌, ◌<◌, ◌≤◌, �
 ghost use Rattle.std.specs.Prelude.{IfOk, IsOk, OnOk, OnErr, drop, length, slice_get, true};
 ghost use Rattle.std.specs.Option.{option_map_or};
 ghost use Rattle.slab.specs.Slab as slots;
-ghost use Rattle.af_base.specs.Take.{cut, take_from, take_stream};
+ghost use Rattle.af_base.specs.Take.{cut, keeps_borders, take_from, take_stream};
 ghost use Rattle.af_base.specs.Whole.{IsMessageWithin};
 ghost use Rattle.af_queue.specs.declared.chain.Node.{Node};
 ghost use Rattle.af_queue.specs.Chains.{has_room, messages_of, IsChain, KeepsNodes, SameElsewhere};
@@ -124,11 +124,11 @@ pub fn take(
         (messages_of nodes.new chain.new ≡ messages_of nodes.old chain.old) }
     ensures unchanged { OnErr result (nodes.new ≡ nodes.old) }
     ensures nothing_taken { OnErr result (taken.new ≡ taken.old) }
-    ensures succeeds { kind ≡ SockType.Seqpacket → IsOk result }
+    ensures succeeds { keeps_borders kind ≡ true → IsOk result }
 {
     match kind {
         SockType::Stream => take_stream(nodes, chain, alloc, max, taken),
-        SockType::Seqpacket => {
+        SockType::Seqpacket | SockType::Dgram => {
             take_packet(nodes, chain, max, taken);
             Ok(())
         }

@@ -148,7 +148,7 @@ impl<'a> Queue<'a> {
     {
         match kind {
             SockType::Stream => self.stream_cut(max).1,
-            SockType::Seqpacket => self.front_files(),
+            SockType::Seqpacket | SockType::Dgram => self.front_files(),
         }
     }
 
@@ -160,7 +160,7 @@ impl<'a> Queue<'a> {
     {
         match kind {
             SockType::Stream => self.peek_stream(alloc, max),
-            SockType::Seqpacket => self.peek_packet(alloc, max),
+            SockType::Seqpacket | SockType::Dgram => self.peek_packet(alloc, max),
         }
     }
 
