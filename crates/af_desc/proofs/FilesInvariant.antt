@@ -9,7 +9,6 @@ use Rattle.std.proofs.lemmas.Bool.{ltb-false, ltb-true, false≢true, and_parts,
 use Rattle.std.proofs.Math.Bool.{and-false}
 use Rattle.std.specs.Int.{from_bool}
 use Rattle.std.proofs.lemmas.List.Sums.{sum_by-append}
-use Rattle.af_base.specs.declared.events.SockType.TheVariants.{Stream}
 use Rattle.af_base.specs.Counts.{total_of, count_in, one}
 use Rattle.af_base.specs.Names.{bound_to, set_of}
 use Rattle.af_base.specs.World.{Map, File, Socket}
@@ -38,7 +37,8 @@ use Rattle.af_desc.proofs.FirstNumber.{begun-made, begun-removed}
 use Rattle.af_desc.proofs.FileNames.{named-changed, named-new}
 use Rattle.ordered_slab.proofs.Parts.{part_many}
 use Rattle.ordered_slab.proofs.Values.{gone_few}
-use Rattle.af_listen.specs.NamesView.{NamesView}
+use Rattle.af_listen.specs.NameSets.{names_in}
+use Rattle.af_listen.specs.declared.name_sets.NameSets.{NameSets}
 
 -- ---- embryos
 
@@ -191,13 +191,15 @@ first-place (Queue u) None e = refl
 first-place Backlog None e = refl
 first-place p (Some c) e = absurd (false≢true (sym e))
 
-module _ {embryos bound white : ℕ} (old new : FileTableView) (ws : List ℕ) (room : ℕ) (names : NamesView) (next epoch : ℕ) (grey : List ℕ) (most : ℕ) (h : FilesInvariant old ws room names next epoch grey most embryos bound white) where
+module _ {embryos bound white : ℕ} (old new : FileTableView) (ws : List ℕ) (room : ℕ)
+    (names : NameSets) (next epoch : ℕ) (grey : List ℕ) (most : ℕ)
+    (h : FilesInvariant old ws room names next epoch grey most embryos bound white) where
   -- More room changes nothing.
   pub filed-reserved : (vs : List ℕ) (space : ℕ) (gs : List ℕ) (wide : ℕ) → new ≡ record old { room = new.room; space = new.space } → vs ≡ ws → room ≤ space → gs ≡ grey → most ≤ wide → new.space ≤ space → new.space ≤ wide → FilesInvariant new vs space names next epoch gs wide embryos bound white
   filed-reserved vs space gs wide is unreferenced more greys wider few least = let low = h.last in let fits = h.fits in record {
     last = omega (arith, low, ap (λ r. r.last) is);
     begins = ap (λ r. map.contains_key r.files 0) is ∙ h.begins;
-    named = subst (AreNamed (set_of Stream) names) (sym (ap (λ r. r.files) is)) h.named;
+    named = subst (AreNamed names) (sym (ap (λ r. r.files) is)) h.named;
     unreferenced_listed = subst (AreUnreferenced new.counts) (sym unreferenced) (subst (λ m. AreUnreferenced m ws) (sym (ap (λ r. r.counts) is)) h.unreferenced_listed);
     fits = omega (arith, fits, more, ap (λ r. map.len r.counts) is);
     listed = listed-same old.marks new.marks epoch grey most h.listed gs wide (ap (λ r. r.marks) is) greys wider;
@@ -216,8 +218,8 @@ module _ {embryos bound white : ℕ} (old new : FileTableView) (ws : List ℕ) (
   filed-marked m gs wide is listed wider n whites = filed-renewed m epoch bound gs wide is listed wider n whites
 
   -- Other files of the same numbers, with the names that are theirs.
-  pub filed-named : (fs : Map File) (left : NamesView) → new ≡ record old { files = fs }
-      → map.contains_key fs 0 ≡ false → AreNamed (set_of Stream) left fs
+  pub filed-named : (fs : Map File) (left : NameSets) → new ≡ record old { files = fs }
+      → map.contains_key fs 0 ≡ false → AreNamed left fs
       → FilesInvariant new ws room left next epoch grey most embryos bound white
   filed-named fs left is begins named = subst (λ r. FilesInvariant r ws room left next epoch grey most embryos bound white) (sym is) (record { last = h.last; begins = begins; named = named; unreferenced_listed = h.unreferenced_listed; fits = h.fits; listed = h.listed; backlogged = h.backlogged; whites = h.whites; space = h.space })
 
@@ -229,7 +231,20 @@ module _ {embryos bound white : ℕ} (old new : FileTableView) (ws : List ℕ) (
   socket_changed f g same is =
       let begins = changed-live (file_with g) old.files f 0 ∙ h.begins in
       subst (λ r. FilesInvariant r ws room names next epoch grey most embryos bound white) (sym is)
-      (record { last = h.last; begins = begins; named = named-changed (set_of Stream) names old.files f g same h.named; unreferenced_listed = h.unreferenced_listed; fits = h.fits; listed = h.listed; backlogged = h.backlogged; whites = h.whites; space = h.space })
+      (record {
+        last = h.last;
+        begins = begins;
+        named =
+            λ kind. named-changed (set_of kind) (names_in names kind) old.files f g same
+            (h.named kind);
+        unreferenced_listed = h.unreferenced_listed;
+        fits = h.fits;
+        listed =
+            h.listed;
+        backlogged = h.backlogged;
+        whites = h.whites;
+        space = h.space;
+      })
 
   -- Or nothing does, where memory is refused.
   pub socket_either : {A B : Type 0} (b : Bool) (r : Result A B) (f : ℕ) (g : Socket → Socket)
@@ -253,7 +268,9 @@ module _ {embryos bound white : ℕ} (old new : FileTableView) (ws : List ℕ) (
   filed-entered x p is stranger uncounted_before unmarked_before nameless fits few k embryo = let low = h.last in record {
     last = omega (arith, ap (λ r. r.last) is);
     begins = ap (λ r. map.contains_key r.files 0) is ∙ begun-made old.files next x (omega (arith, low)) h.begins;
-    named = subst (AreNamed (set_of Stream) names) (sym (ap (λ r. r.files) is)) (named-new (set_of Stream) names old.files h.named next x stranger nameless);
+    named = subst (AreNamed names) (sym (ap (λ r. r.files) is))
+        (λ kind. named-new (set_of kind) (names_in names kind) old.files (h.named kind) next x
+        stranger nameless);
     unreferenced_listed = just-same (λ c. nat_eq (places_in c) 0) old.counts new.counts ws next h.unreferenced_listed (more p uncounted) (ap (λ r. r.counts) is) (first-place p (map.get old.counts next) uncounted_before);
     fits = omega (arith, fits, ap (λ r. map.len r.counts) is, len-insert_most old.counts next (more p uncounted));
     listed = listed-born old.marks new.marks epoch grey most h.listed next most (ap (λ r. r.marks) is) unmarked_before (omega (arith, few, ap (λ r. map.len r.marks) is, len-insert_most old.marks next unmarked));
@@ -263,16 +280,16 @@ module _ {embryos bound white : ℕ} (old new : FileTableView) (ws : List ℕ) (
   }
 
   -- A file less that was not grey, with the names and the unreferenced ones that are left.
-  pub filed-removed : (k : ℕ) (left : NamesView) (vs : List ℕ) (space : ℕ)
+  pub filed-removed : (k : ℕ) (left : NameSets) (vs : List ℕ) (space : ℕ)
       → new ≡ without_row k new.room new.space old → new.space ≤ old.space
-      → AreNamed (set_of Stream) left (map.remove old.files k)
+      → AreNamed left (map.remove old.files k)
       → ((f : ℕ) → count_in f vs ≡ count_in f ws - one f k) → room ≤ space
       → option_map_or is_grey_color (map.get (colors_in epoch old.marks) k) false ≡ false → (n : ℕ) → white_count (record { colors = map.remove (colors_in epoch old.marks) k; bound = bound }) ≤ n
       → FilesInvariant new vs space left next epoch grey most embryos bound n
   filed-removed k left vs space is narrow named off more spared n few = let low = h.last in let fits = h.fits in record {
     last = omega (arith, low, ap (λ r. r.last) is);
     begins = ap (λ r. map.contains_key r.files 0) is ∙ begun-removed old.files k h.begins;
-    named = subst (AreNamed (set_of Stream) left) (sym (ap (λ r. r.files) is)) named;
+    named = subst (AreNamed left) (sym (ap (λ r. r.files) is)) named;
     unreferenced_listed = just-gone (λ c. nat_eq (places_in c) 0) old.counts new.counts ws k h.unreferenced_listed vs (ap (λ r. r.counts) is) off;
     fits = omega (arith, fits, more, ap (λ r. map.len r.counts) is, gone_few old.counts k);
     listed = listed-gone old.marks new.marks epoch grey most h.listed k (ap (λ r. r.marks) is) spared;
@@ -356,7 +373,9 @@ module _ (epoch bound : ℕ) (r : FileTableView) (f : ℕ) where
         (ap {B = MarksView} (λ cs. record { colors = cs; bound = bound }) (color_after epoch r.marks _ f (black_mark epoch) Black refl (color_now epoch (black_mark epoch) refl))
         ∙ sym (λ i. cond (parts.0 i) (cond (lt-ltb f bound low i && (white-is ∙ parts.1) i) (with_color Black) now) now))
 
-  module _ {names : NamesView} {unreferenced grey : List ℕ} {room next most embryos white : ℕ} (h : FilesInvariant r unreferenced room names next epoch grey most embryos bound white) (was : is_white_in epoch r.marks f ≡ true) (low : f < bound) where
+  module _ {names : NameSets} {unreferenced grey : List ℕ} {room next most embryos white : ℕ}
+      (h : FilesInvariant r unreferenced room names next epoch grey most embryos bound white)
+      (was : is_white_in epoch r.marks f ≡ true) (low : f < bound) where
     -- A white file that is marked is one less to be marked.
     left-white : (x : MarkView) (c : Color) → x.epoch ≡ epoch → x.color ≡ c → is_mark c ≡ true → (0 < white) × AreWhite (map.insert r.marks f x) epoch bound next (white - 1)
     left-white x c this is marks = white-marked r.marks (map.insert r.marks f x) epoch bound next white h.whites f x refl c marks (color_now epoch x this ∙ is) (white-is ∙ was) low
@@ -385,7 +404,9 @@ module _ (epoch bound : ℕ) (r : FileTableView) (f : ℕ) where
           )
 
   -- The last file of the list is scanned.
-  module _ {names : NamesView} {unreferenced grey : List ℕ} {room next most embryos white : ℕ} (h : FilesInvariant r unreferenced room names next epoch grey most embryos bound white) (gs : List ℕ) (last : grey ≡ gs ++ f ∷ []) where
+  module _ {names : NameSets} {unreferenced grey : List ℕ} {room next most embryos white : ℕ}
+      (h : FilesInvariant r unreferenced room names next epoch grey most embryos bound white)
+      (gs : List ℕ) (last : grey ≡ gs ++ f ∷ []) where
     -- It is in the list once more than in the rest.
     once : (g : ℕ) → count_in g grey ≡ count_in g gs + one g f
     once g = let all = ap (count_in g) last in let more = sum_by-append (one g) gs (f ∷ []) in let own = count-cons g f [] in omega (arith, all, more, own)

@@ -4,21 +4,22 @@ use Rattle.std.specs.Prelude.{◌∷◌, ◌≡◌, ◌↔◌, ◌&&◌, ◌<◌
 use Rattle.std.specs.Option.{option_and_then}
 use Rattle.std.specs.FinMap as map
 use Rattle.af_base.specs.declared.events.SockType.{SockType}
-use Rattle.af_base.specs.declared.events.SockType.TheVariants.{Stream}
 use Rattle.af_base.specs.declared.events.State.{State}
 use Rattle.af_base.specs.declared.events.State.TheVariants as state
 use Rattle.af_base.specs.World.{AsSocket, File, Map, Message, Since, Socket}
-use Rattle.af_base.specs.Changes.{change_socket_at}
+use Rattle.af_base.specs.Changes.{change_socket_at, sending_to}
 use Rattle.af_base.specs.Counts.{total_of}
 use Rattle.af_base.specs.Names.{bound_to, set_of}
 use Rattle.af_base.specs.Refusals.{is_full_of, no_socket, socket_of}
-use Rattle.af_base.specs.Steps.{connected_socket}
+use Rattle.af_base.specs.Steps.{paired_socket, paired_state}
 use Rattle.af_base.specs.Take.{take_from}
 use Rattle.af_ledger.specs.Counted.{CountView, fewer, more, uncounted}
 use Rattle.af_ledger.specs.Tally.{AreUnreferenced, count_in_map}
 use Rattle.af_ledger.specs.declared.place.Place.{Place}
 use Rattle.af_ledger.specs.declared.place.Place.TheVariants.{Backlog, Queue, Table}
 use Rattle.af_listen.specs.NamesView.{NamesView}
+use Rattle.af_listen.specs.NameSets.{names_in}
+use Rattle.af_listen.specs.declared.name_sets.NameSets.{NameSets}
 use Rattle.af_mark.specs.Grey.{IsGreyList, colors_in, MarkView}
 use Rattle.af_mark.specs.MarksView.{MarksView, born, forgotten, is_unmarked, white_count}
 use Rattle.af_queue.specs.TakenView.{TakenView, received}
@@ -54,8 +55,8 @@ entered p x v = record v {
 
 -- Two sockets more, connected to each other, each of which such a place holds (socketpair(2)).
 abbrev pub paired : Place → SockType → FilesView → FilesView
-paired p kind v = entered p (AsSocket (connected_socket kind v.next))
-    (entered p (AsSocket (connected_socket kind (v.next + 1))) v)
+paired p kind v = entered p (AsSocket (paired_socket kind v.next))
+    (entered p (AsSocket (paired_socket kind (v.next + 1))) v)
 
 -- Without this file.
 abbrev pub without : ℕ → FilesView → FilesView
@@ -92,6 +93,14 @@ changed_queue g f room v = record (changed g f v) { message_room = room }
 abbrev pub hung_up : Socket → Socket
 hung_up s = record s { state = state.HungUp }
 
+-- A socket of a pair with this one (socketpair(2)).
+abbrev pub paired_with : ℕ → Socket → Socket
+paired_with other s = record s { state = paired_state s.kind other }
+
+-- A datagram socket that sends to f, or, of 0, has no target; its queue stays (connect(2)).
+abbrev pub turned : ℕ → Socket → Socket
+turned f s = record s { state = sending_to f }
+
 -- A socket whose first message is out of its queue (recvmsg(2)).
 abbrev pub popped : Socket → Socket
 popped s = record s { queue = drop 1 s.queue }
@@ -115,6 +124,7 @@ after_hangup state.Idle files = files
 after_hangup (state.Listening b) files = files
 after_hangup (state.Connected peer) files = change_socket_at hung_up files peer
 after_hangup state.HungUp files = files
+after_hangup (state.Sends to) files = files
 
 -- These files after another is freed, which may be this socket.
 abbrev pub after_end : Option Socket → Map File → Map File
@@ -147,9 +157,13 @@ bound_in files f = option_and_then bound_to (socket_in files f)
 
 -- The names are just those of these files in this set: a name leads to the one socket that has it
 -- there (unix(7), abstract names).
-pub record AreNamed (set : ℕ) (names : NamesView) (files : Map File) : Type 0 where
+pub record AreNamedIn (set : ℕ) (names : NamesView) (files : Map File) : Type 0 where
   pub each : (name : List ℕ) (f : ℕ)
       → (map.get names name ≡ Some f) ↔ (bound_in files f ≡ Some (set, name))
+
+-- The same of the set of each type.
+abbrev pub AreNamed : NameSets → Map File → Type 0
+AreNamed names files = (kind : SockType) → AreNamedIn (set_of kind) (names_in names kind) files
 
 -- No more places are in backlogs than this number, unless it is as large as it can get.
 abbrev pub AreEmbryos : Map CountView → ℕ → Type 0
@@ -173,15 +187,15 @@ abbrev pub AreWhite : Map MarkView → ℕ → ℕ → ℕ → ℕ → Type 0
 AreWhite marks epoch bound next n = (bound ≤ next)
     × (white_count (record { colors = colors_in epoch marks; bound = bound }) ≤ n)
 
--- Numbers begin at 1 and rise; the names are those of the files, all in one set; one list has just
+-- Numbers begin at 1 and rise; the names are those of the files, in their sets; one list has just
 -- the unreferenced files and one just the grey ones, with room for all, and for as many as the rows
 -- say; the embryos and the files that a pass has still to mark are at most the numbers kept.
 pub record FilesInvariant (rows : FileTableView) (unreferenced : List ℕ) (room : ℕ)
-    (names : NamesView) (next epoch : ℕ) (grey : List ℕ)
+    (names : NameSets) (next epoch : ℕ) (grey : List ℕ)
     (most embryos bound white : ℕ) : Type 0 where
   pub last : rows.last + 1 ≡ next
   pub begins : map.contains_key rows.files 0 ≡ false
-  pub named : AreNamed (set_of Stream) names rows.files
+  pub named : AreNamed names rows.files
   pub unreferenced_listed : AreUnreferenced rows.counts unreferenced
   pub fits : map.len rows.counts ≤ room
   pub listed : IsGreyList rows.marks epoch grey most

@@ -4,8 +4,8 @@ ghost use Rattle.std.specs.Prelude.{None, false, is_none, length, true, IsOk};
 ghost use Rattle.af_base.specs.Changes.{file_with, pushed};
 ghost use Rattle.af_base.specs.Places.{backlog_of, contents, queue_of};
 ghost use Rattle.af_base.specs.Refusals.{socket_of};
+ghost use Rattle.af_base.specs.Take.{keeps_borders};
 ghost use Rattle.af_base.specs.Whole.{IsMessageWithin};
-ghost use Rattle.af_base.specs.declared.events.SockType.TheVariants.{Seqpacket};
 ghost use Rattle.af_queue.specs.Chains.{has_room, messages_of, IsChain, SameElsewhere};
 ghost use Rattle.af_queue.specs.TakenView.{nothing_received};
 ghost use Rattle.af_desc.specs.FilesView.{IsFirst, name_of, popped, received_from, received_of};
@@ -176,7 +176,7 @@ impl FileRow {
         ensures others { SameElsewhere nodes.old self.old.chain nodes.new self.new.chain }
         ensures rest { self.new ≡ record self.old { chain = self.new.chain } }
         ensures succeeds { IfSome (socket_of (file_in nodes.old self.old)) (λ s.
-            s.kind ≡ Seqpacket) → IsOk result }
+            keeps_borders s.kind ≡ true) → IsOk result }
     {
         let Some(socket) = self.socket(nodes) else {
             return Ok(());

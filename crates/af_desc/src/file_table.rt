@@ -2,19 +2,21 @@
 ghost use Rattle.std.specs.Prelude.{◌≡◌, ℕ, ◌+◌, ◌≤◌, ◌<◌, ◌∷◌, [], true, false, None, IsTrue};
 ghost use Rattle.std.specs.Prelude.{IsOk, IfSome, IfNone, IfErr, IfOk, OnOk, OnErr, drop, is_none};
 ghost use Rattle.std.specs.Prelude.{if◌then◌else◌, is_some, length, nat_eq, option_copied, Some};
+ghost use Rattle.std.specs.Prelude.{unwrap_or};
 ghost use Rattle.std.specs.FinMap as map;
-ghost use Rattle.af_base.specs.Changes.{connected, dequeued, listening, pushed, queued, shut, with_name};
+ghost use Rattle.af_base.specs.Changes.{connected, dequeued, listening, pushed, queued, shut};
+ghost use Rattle.af_base.specs.Changes.{with_name};
 ghost use Rattle.af_base.specs.Places.{backlog_in, held_in, queue_in};
 ghost use Rattle.af_base.specs.Refusals.{room_of};
+ghost use Rattle.af_base.specs.Take.{keeps_borders};
 ghost use Rattle.af_base.specs.Told.{AreChanged, AreReleased, AreSocketsOnce};
 ghost use Rattle.af_base.specs.Whole.{IsMessageWithin};
 ghost use Rattle.af_base.specs.World.{untold};
-ghost use Rattle.af_base.specs.declared.events.SockType.TheVariants.{Seqpacket};
 ghost use Rattle.af_ledger.specs.Counted.{fewer, more, places_in, IsCountable, IsCounted};
 ghost use Rattle.af_ledger.specs.Tally.{count_in_map};
 ghost use Rattle.af_ledger.specs.declared.place.Place.TheVariants.{Table};
-ghost use Rattle.af_desc.specs.FilesView.{hung_up, name_in, received_from};
-ghost use Rattle.af_desc.specs.FilesView.{received_of, socket_in};
+ghost use Rattle.af_desc.specs.FilesView.{hung_up, name_in, paired_with, received_from};
+ghost use Rattle.af_desc.specs.FilesView.{received_of, socket_in, turned};
 ghost use Rattle.af_desc.specs.FileTableView.{file_of, is_due_row, is_white_in, with_row};
 ghost use Rattle.af_desc.specs.FileTableView.{with_socket, with_socket_and_room, without_row};
 ghost use Rattle.af_desc.specs.Holding.{IsContents, IsPopped, without_popped};
@@ -268,6 +270,33 @@ impl FileTable {
         self.told.add_changed(row, file);
     }
 
+    /// Makes the socket `file` the other one of a pair with `other`.
+    #[inline(always)]
+    #[tactic(auto, using(crate::proofs::FileTableView::rows, ordered_slab::proofs::Parts::parts))]
+    pub fn pair_with(&mut self, file: &FileRef, other: &FileRef)
+        ensures { self.new ≡ with_socket self.old file.now (paired_with other.now) }
+    {
+        let Some(row) = self.rows.get_mut(file) else {
+            return;
+        };
+        row.kind.pair_with(other);
+        self.told.add_changed(row, file);
+    }
+
+    /// Lets a datagram socket send to `target`, or leaves it no target (connect(2)).
+    #[tactic(auto, using(crate::proofs::FileTableView::rows, ordered_slab::proofs::Parts::parts))]
+    pub fn aim(&mut self, file: &FileRef, target: Option<&FileRef>)
+        requires { IfSome (option_copied target) (λ to. 0 < to) }
+        ensures { self.new
+            ≡ with_socket self.old file.now (turned (unwrap_or (option_copied target.entry) 0)) }
+    {
+        let Some(row) = self.rows.get_mut(file) else {
+            return;
+        };
+        row.kind.aim(target);
+        self.told.add_changed(row, file);
+    }
+
     /// Closes the input of a socket if `input` says so, and its output if `output` does
     /// (shutdown(2)).
     #[tactic(auto, using(crate::proofs::FileTableView::rows, ordered_slab::proofs::Parts::parts))]
@@ -404,7 +433,7 @@ impl FileTable {
             ≡ with_socket_and_room self.old file.now (received_from max) self.new.message_room) }
         ensures err { OnErr result (self.new ≡ self.old) }
         ensures succeeds { IfSome (socket_in self.old.files file.now) (λ s.
-            s.kind ≡ Seqpacket) → IsOk result }
+            keeps_borders s.kind ≡ true) → IsOk result }
     {
         let Some(row) = self.rows.get_mut(file) else {
             return Ok(());

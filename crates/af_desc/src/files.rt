@@ -1,23 +1,25 @@
 //! The files, by their numbers.
 ghost use Rattle.std.specs.Prelude.{◌≡◌, ℕ, ◌+◌, ◌<◌, ◌∷◌, ◌≤◌, [], false, None, IsTrue, IsOk};
 ghost use Rattle.std.specs.Prelude.{IfSome, IfNone, IfErr, IfOk, OnOk, OnErr, is_none, length};
-ghost use Rattle.std.specs.Prelude.{drop, true, vec_capacity};
+ghost use Rattle.std.specs.Prelude.{drop, option_copied, true, unwrap_or, vec_capacity};
 ghost use Rattle.std.specs.FinMap as map;
 ghost use Rattle.af_base.specs.World as world;
 ghost use Rattle.af_base.specs.Places.{backlog_in, queue_in};
 ghost use Rattle.af_base.specs.Names.{named, set_of};
-ghost use Rattle.af_base.specs.Changes.{connected, dequeued, listening, pushed, queued, shut, with_name};
+ghost use Rattle.af_base.specs.Changes.{connected, dequeued, listening, pushed, queued, shut};
+ghost use Rattle.af_base.specs.Changes.{with_name};
 ghost use Rattle.af_base.specs.Refusals.{room_of};
 ghost use Rattle.af_base.specs.Steps.{connected_socket, idle_socket};
+ghost use Rattle.af_base.specs.Take.{keeps_borders};
 ghost use Rattle.af_base.specs.Told.{AreChanged, AreReleased, AreSocketsOnce};
 ghost use Rattle.af_base.specs.Whole.{IsMessageWithin};
 ghost use Rattle.af_base.specs.World.{untold};
 ghost use Rattle.af_mark.specs.MarksView.{is_grey, is_unmarked};
 ghost use Rattle.af_desc.specs.FileTableView.{file_of};
-ghost use Rattle.af_base.specs.declared.events.SockType.TheVariants.{Stream};
 ghost use Rattle.af_desc.specs.FilesView.{AreNamed, after_end, changed, changed_queue, entered};
 ghost use Rattle.af_desc.specs.FilesView.{freed, is_full, is_live, is_unmarked_socket, name_of};
-ghost use Rattle.af_desc.specs.FilesView.{paired, received_from, received_of, socket_in, without};
+ghost use Rattle.af_desc.specs.FilesView.{paired, received_from, received_of, socket_in, turned};
+ghost use Rattle.af_desc.specs.FilesView.{without};
 ghost use Rattle.af_desc.specs.Holding.{IsPopped, without_popped};
 ghost use Rattle.af_desc.specs.Told.{since_telling};
 ghost use Rattle.af_queue.specs.TakenView.{nothing_received};
@@ -33,7 +35,7 @@ use af_base::ids::{FileRef, Ino, Uid};
 use af_base::items::Items;
 use af_base::limits::{MAX_FILES, MAX_INO, MAX_MESSAGES};
 use af_ledger::Place;
-use af_listen::Names;
+use af_listen::NameSets;
 use af_queue::{Attached, Msg, Taken};
 use std::alloc::{AllocError, Global};
 use std::marker::Model;
@@ -56,8 +58,8 @@ pub struct Files {
     /// Files from this number on were made since the pass began.
     pub(crate) bound: u64,
     pub(crate) next: u64,
-    /// The names, which all types of sockets have in one set.
-    pub(crate) names: Names,
+    /// The names, in the sets of the types of sockets.
+    pub(crate) names: NameSets,
     /// At least the number of embryos: at the largest `u64` it no longer changes.
     pub(crate) embryos: u64,
     /// At least the number of files below the bound that are not marked.
@@ -125,7 +127,7 @@ impl Files {
             epoch: 0,
             bound: 0,
             next: 1,
-            names: Names::new(alloc),
+            names: NameSets::new(alloc),
             embryos: 0,
             white: 0,
         }
@@ -179,9 +181,7 @@ impl Files {
     pub fn find_name(&self, kind: SockType, name: &[u8]) -> Option<FileRef>
         ensures { result ≡ named self.now.files (set_of kind) name.now }
     {
-        match kind {
-            SockType::Stream | SockType::Seqpacket => self.names.find(name),
-        }
+        self.names.find(kind, name)
     }
 
     /// Returns the file with the least number above `ino`, if there is one, and the position behind
@@ -240,9 +240,9 @@ impl Files {
         self.make(FileKind::new_idle(kind), place)
     }
 
-    /// Makes two sockets that are connected to each other (socketpair(2)), under the next two
-    /// numbers, each with `place` as its first reference, if `is_full(2)` is false. On an error
-    /// nothing has changed.
+    /// Makes two sockets that are connected to each other, or datagram sockets that send to each
+    /// other (socketpair(2)), under the next two numbers, each with `place` as its first reference,
+    /// if `is_full(2)` is false. On an error nothing has changed.
     #[tactic(auto, using(crate::proofs::FirstNumber::begun))]
     pub fn make_two(
         &mut self,
@@ -259,10 +259,10 @@ impl Files {
         let idle = FileKind::new_idle(kind);
         let first = self.rows.push(Ino(self.next), idle, place);
         self.embryos = more_embryos(self.embryos, place);
-        let connected = FileKind::new_connected(kind, &first);
-        let second = self.rows.push(Ino(self.next + 1), connected, place);
+        let paired = FileKind::new_paired(kind, &first);
+        let second = self.rows.push(Ino(self.next + 1), paired, place);
         self.embryos = more_embryos(self.embryos, place);
-        self.rows.connect(&first, &second);
+        self.rows.pair_with(&first, &second);
         self.next += 2;
         Ok((first, second))
     }
@@ -360,7 +360,7 @@ impl Files {
             (self.new ≡ changed_queue (received_from max) file.now self.new.message_room self.old) }
         ensures err { OnErr result (self.new ≡ self.old) }
         ensures succeeds { IfSome (socket_in self.old.files file.now) (λ s.
-            s.kind ≡ SockType.Seqpacket) → IsOk result }
+            keeps_borders s.kind ≡ true) → IsOk result }
     {
         self.rows.take(file, self.alloc, max, taken)
     }
@@ -406,6 +406,16 @@ impl Files {
         self.rows.connect(file, peer);
     }
 
+    /// Lets a datagram socket send to `target`, or leaves it no target (connect(2)); its queue
+    /// stays. Ignores a plain or unknown file. Takes no memory.
+    pub fn aim(&mut self, file: &FileRef, target: Option<&FileRef>)
+        requires { IfSome (option_copied target) (λ to. 0 < to) }
+        ensures { self.new
+            ≡ changed (turned (unwrap_or (option_copied target.entry) 0)) file.now self.old }
+    {
+        self.rows.aim(file, target);
+    }
+
     /// Closes the input of a socket if `input` says so, and its output if `output` does
     /// (shutdown(2)). Ignores a plain or unknown file. Takes no memory.
     pub fn shut(&mut self, file: &FileRef, input: bool, output: bool)
@@ -423,14 +433,15 @@ impl Files {
         ensures ok { OnOk result (self.new ≡ changed (with_name name.now) file.now self.old) }
         ensures err { OnErr result (self.new ≡ self.old) }
     {
-        if self.socket(file).is_none() {
+        let Some(socket) = self.socket(file) else {
             return Ok(());
-        }
+        };
+        let kind = socket.kind();
         let own = Items::of(name.to_vec(self.alloc)?);
         let listed = name.to_vec(self.alloc)?;
-        self.names.bind(listed, file.duplicate())?;
+        self.names.bind(kind, listed, file.duplicate())?;
         if let Err(refused) = self.rows.bind(file, self.alloc, own) {
-            self.names.unbind(name);
+            self.names.unbind(kind, name);
             return Err(refused);
         }
         Ok(())
@@ -575,12 +586,11 @@ fn reserve_anew(
 
 /// Frees the name of a file that was removed, if it had one.
 #[inline(always)]
-fn free_name(names: &mut Names, gone: &FileKind)
-    ensures { (files : world.Map world.File) (f : ℕ) → AreNamed (set_of Stream) names.old files
-        → gone.now ≡ socket_in files f
-        → AreNamed (set_of Stream) names.new (map.remove files f) }
+fn free_name(names: &mut NameSets, gone: &FileKind)
+    ensures { (files : world.Map world.File) (f : ℕ) → AreNamed names.old files
+        → gone.now ≡ socket_in files f → AreNamed names.new (map.remove files f) }
 {
     if let Some(name) = gone.name() {
-        names.unbind(name.as_slice());
+        names.unbind(gone.kind(), name.as_slice());
     }
 }

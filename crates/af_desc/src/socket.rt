@@ -1,13 +1,14 @@
 //! The kind of a file, without a queue, and a socket as a whole, lent for reading.
 ghost use Rattle.std.specs.Prelude.{◌≡◌, ℕ, ◌∷◌, [], ◌<◌, OnOk, OnErr, IfSome, IfNone, None, false};
 ghost use Rattle.std.specs.Prelude.{Some, true, drop, is_none, is_some, length, option_copied};
-ghost use Rattle.std.specs.Prelude.{option_map};
+ghost use Rattle.std.specs.Prelude.{option_map, unwrap_or};
 ghost use Rattle.std.specs.Option.{option_and_then, option_map_or};
-ghost use Rattle.af_base.specs.Changes.{connected, dequeued, listening, queued, shut, with_name};
-ghost use Rattle.af_base.specs.Refusals.{room_of};
-ghost use Rattle.af_base.specs.Steps.{connected_socket, idle_socket};
-ghost use Rattle.af_desc.specs.FilesView.{hung_up};
-ghost use Rattle.af_desc.specs.Form.{embryos_of, shown, state_of};
+ghost use Rattle.af_base.specs.Changes.{connected, dequeued, listening, queued, sending_to};
+ghost use Rattle.af_base.specs.Changes.{shut, with_name};
+ghost use Rattle.af_base.specs.Refusals.{is_datagram, room_of};
+ghost use Rattle.af_base.specs.Steps.{connected_socket, idle_socket, paired_socket, paired_state};
+ghost use Rattle.af_desc.specs.FilesView.{hung_up, paired_with, turned};
+ghost use Rattle.af_desc.specs.Form.{embryos_of, kind_of, shown, state_of};
 ghost use Rattle.af_desc.specs.FileTableView.{refilled};
 
 use af_base::events::{Ends, SockType, State};
@@ -35,6 +36,8 @@ enum Form {
     Idle(SockType, Ends),
     /// Has no name, and is connected to a live peer.
     Connected(SockType, Ends, FileRef),
+    /// Has no name, and sends to this target, live or freed.
+    Sends(SockType, Ends, FileRef),
     /// Has no name, and was connected; the peer was freed.
     HungUp(SockType, Ends),
     /// Has a name.
@@ -60,6 +63,8 @@ enum Link {
     Connected(FileRef),
     /// Was connected; the peer was freed.
     HungUp,
+    /// Sends to this target, live or freed.
+    Sends(FileRef),
 }
 
 impl Model for FileKind {
@@ -102,6 +107,16 @@ impl FileKind {
         }
     }
 
+    /// Makes a new socket of a pair with that one: connected to it, or a datagram socket that sends
+    /// there.
+    pub fn new_paired(kind: SockType, other: &FileRef) -> FileKind
+        ensures { result ≡ Some (paired_socket kind other.now) }
+    {
+        FileKind {
+            form: Form::paired(kind, Ends::open(), other),
+        }
+    }
+
     /// Does nothing at run time. Shows that the queue here is empty.
     pub fn lemma_is_silent(&self)
         ensures { IfSome self.now (λ s. s.queue ≡ []) }
@@ -112,6 +127,7 @@ impl FileKind {
             | Form::Idle(_, _)
             | Form::Connected(_, _, _)
             | Form::HungUp(_, _)
+            | Form::Sends(_, _, _)
             | Form::Named(_, _, _) => {}
         }
     }
@@ -134,6 +150,7 @@ impl FileKind {
             Form::Idle(_, _)
             | Form::Connected(_, _, _)
             | Form::HungUp(_, _)
+            | Form::Sends(_, _, _)
             | Form::Named(_, _, _) => Some(&self.form),
         }
     }
@@ -156,6 +173,14 @@ impl FileKind {
             ((peer : ℕ) → ¬ (option_map (λ s. s.state) self.now ≡ Some (State.Connected peer))) }
     {
         self.socket_form()?.peer()
+    }
+
+    /// Returns the socket's type; of a plain file, that of streams.
+    #[inline(always)]
+    pub fn kind(&self) -> SockType
+        ensures { IfSome self.now (λ s. result ≡ s.kind) }
+    {
+        self.form.kind()
     }
 
     /// Returns the abstract name, if there is one (unix(7)).
@@ -215,6 +240,37 @@ impl FileKind {
         }
     }
 
+    /// Makes a socket the other one of a pair with that one. Takes no memory.
+    pub fn pair_with(&mut self, other: &FileRef)
+        ensures { self.new ≡ option_map (paired_with other.now) self.old }
+    {
+        match &mut self.form {
+            Form::Plain => {}
+            Form::Named(kind, _, socket) => socket.link = Link::paired(*kind, other),
+            _ => {
+                let form = &self.form;
+                self.form = Form::paired(form.kind(), form.ends(), other);
+            }
+        }
+    }
+
+    /// Lets a datagram socket send to `target`, or leaves it no target (connect(2)). Takes no
+    /// memory.
+    pub fn aim(&mut self, target: Option<&FileRef>)
+        requires { IfSome (option_copied target) (λ to. 0 < to) }
+        ensures { self.new
+            ≡ option_map (turned (unwrap_or (option_copied target.entry) 0)) self.old }
+    {
+        match &mut self.form {
+            Form::Plain => {}
+            Form::Named(_, _, socket) => socket.link = Link::sending_to(target),
+            _ => {
+                let form = &self.form;
+                self.form = Form::sending_to(form.kind(), form.ends(), target);
+            }
+        }
+    }
+
     /// Appends an embryo to the backlog of a socket. Takes no memory.
     pub fn enqueue(&mut self, embryo: FileRef)
         requires { IfSome self.old (λ s. length s.backlog < room_of s.state) }
@@ -248,6 +304,7 @@ impl FileKind {
             Form::Idle(_, ends) => ends.close(input, output),
             Form::Connected(_, ends, _) => ends.close(input, output),
             Form::HungUp(_, ends) => ends.close(input, output),
+            Form::Sends(_, ends, _) => ends.close(input, output),
             Form::Named(_, ends, _) => ends.close(input, output),
         }
     }
@@ -265,6 +322,33 @@ impl FileKind {
 }
 
 impl Form {
+    /// Returns the form of a nameless socket of a pair with that one.
+    #[inline(always)]
+    fn paired(kind: SockType, ends: Ends, other: &FileRef) -> Form
+        ensures { kind_of result ≡ Some (record (paired_socket kind other.now) { ends = ends }) }
+    {
+        match kind {
+            SockType::Stream | SockType::Seqpacket => {
+                Form::Connected(kind, ends, other.duplicate())
+            }
+            SockType::Dgram => Form::Sends(kind, ends, other.duplicate()),
+        }
+    }
+
+    /// Returns the form of a nameless socket that sends to `target`, or has none.
+    fn sending_to(kind: SockType, ends: Ends, target: Option<&FileRef>) -> Form
+        requires { IfSome (option_copied target) (λ to. 0 < to) }
+        ensures { kind_of result ≡ Some (record (idle_socket kind) {
+          state = sending_to (unwrap_or (option_copied target.entry) 0);
+          ends = ends;
+        }) }
+    {
+        match target {
+            Some(target) => Form::Sends(kind, ends, target.duplicate()),
+            None => Form::Idle(kind, ends),
+        }
+    }
+
     /// Returns the socket's type.
     #[inline(always)]
     fn kind(&self) -> SockType
@@ -275,6 +359,7 @@ impl Form {
             Form::Idle(kind, _)
             | Form::Connected(kind, _, _)
             | Form::HungUp(kind, _)
+            | Form::Sends(kind, _, _)
             | Form::Named(kind, _, _) => *kind,
         }
     }
@@ -289,6 +374,7 @@ impl Form {
             Form::Idle(_, ends)
             | Form::Connected(_, ends, _)
             | Form::HungUp(_, ends)
+            | Form::Sends(_, ends, _)
             | Form::Named(_, ends, _) => *ends,
         }
     }
@@ -302,6 +388,7 @@ impl Form {
             Form::Plain | Form::Idle(_, _) => State::Idle,
             Form::Connected(_, _, peer) => State::Connected(peer.ino()),
             Form::HungUp(_, _) => State::HungUp,
+            Form::Sends(_, _, target) => State::Sends(target.ino()),
             Form::Named(_, _, socket) => socket.link.state(),
         }
     }
@@ -314,6 +401,7 @@ impl Form {
             Form::Plain | Form::Idle(_, _) => Link::Idle,
             Form::Connected(_, _, peer) => Link::Connected(peer.duplicate()),
             Form::HungUp(_, _) => Link::HungUp,
+            Form::Sends(_, _, target) => Link::Sends(target.duplicate()),
             Form::Named(_, _, socket) => socket.link.duplicate(),
         }
     }
@@ -327,8 +415,20 @@ impl Form {
     {
         match self {
             Form::Connected(_, _, peer) => Some(peer.duplicate()),
-            Form::Plain | Form::Idle(_, _) | Form::HungUp(_, _) => None,
+            Form::Plain | Form::Idle(_, _) | Form::HungUp(_, _) | Form::Sends(_, _, _) => None,
             Form::Named(_, _, socket) => socket.link.peer(),
+        }
+    }
+
+    /// Returns the target of a datagram socket, live or freed, if it has one.
+    fn target(&self) -> Option<FileRef>
+        ensures some { IfSome result (λ to. (shown self.now).state ≡ State.Sends to) }
+        ensures none { IfNone result ((to : ℕ) → ¬ ((shown self.now).state ≡ State.Sends to)) }
+    {
+        match self {
+            Form::Sends(_, _, target) => Some(target.duplicate()),
+            Form::Plain | Form::Idle(_, _) | Form::HungUp(_, _) | Form::Connected(_, _, _) => None,
+            Form::Named(_, _, socket) => socket.link.target(),
         }
     }
 
@@ -341,12 +441,37 @@ impl Form {
     {
         match self {
             Form::Named(_, _, socket) => Some(socket),
-            Form::Plain | Form::Idle(_, _) | Form::Connected(_, _, _) | Form::HungUp(_, _) => None,
+            Form::Plain
+            | Form::Idle(_, _)
+            | Form::Connected(_, _, _)
+            | Form::HungUp(_, _)
+            | Form::Sends(_, _, _) => None,
         }
     }
 }
 
 impl Link {
+    /// Returns the state of a socket of a pair with that one.
+    fn paired(kind: SockType, other: &FileRef) -> Link
+        ensures { state_of result ≡ paired_state kind other.now }
+    {
+        match kind {
+            SockType::Stream | SockType::Seqpacket => Link::Connected(other.duplicate()),
+            SockType::Dgram => Link::Sends(other.duplicate()),
+        }
+    }
+
+    /// Returns the state of a socket that sends to `target`, or has none.
+    fn sending_to(target: Option<&FileRef>) -> Link
+        requires { IfSome (option_copied target) (λ to. 0 < to) }
+        ensures { state_of result ≡ sending_to (unwrap_or (option_copied target.entry) 0) }
+    {
+        match target {
+            Some(target) => Link::Sends(target.duplicate()),
+            None => Link::Idle,
+        }
+    }
+
     /// Returns a copy of this state.
     fn duplicate(&self) -> Link
         ensures { result ≡ self.now }
@@ -356,6 +481,7 @@ impl Link {
             Link::Listening(most) => Link::Listening(*most),
             Link::Connected(peer) => Link::Connected(peer.duplicate()),
             Link::HungUp => Link::HungUp,
+            Link::Sends(target) => Link::Sends(target.duplicate()),
         }
     }
 
@@ -369,6 +495,7 @@ impl Link {
             Link::Listening(most) => State::Listening(*most),
             Link::Connected(peer) => State::Connected(peer.ino()),
             Link::HungUp => State::HungUp,
+            Link::Sends(target) => State::Sends(target.ino()),
         }
     }
 
@@ -380,7 +507,18 @@ impl Link {
     {
         match self {
             Link::Connected(peer) => Some(peer.duplicate()),
-            Link::Idle | Link::Listening(_) | Link::HungUp => None,
+            Link::Idle | Link::Listening(_) | Link::HungUp | Link::Sends(_) => None,
+        }
+    }
+
+    /// Returns the target of a datagram socket, live or freed, if it has one.
+    fn target(&self) -> Option<FileRef>
+        ensures some { IfSome result (λ to. state_of self.now ≡ State.Sends to) }
+        ensures none { IfNone result ((to : ℕ) → ¬ (state_of self.now ≡ State.Sends to)) }
+    {
+        match self {
+            Link::Sends(target) => Some(target.duplicate()),
+            Link::Idle | Link::Listening(_) | Link::HungUp | Link::Connected(_) => None,
         }
     }
 }
@@ -425,6 +563,22 @@ impl<'a> Socket<'a> {
         ensures none { IfNone result ((peer : ℕ) → ¬ (self.now.state ≡ State.Connected peer)) }
     {
         self.form.peer()
+    }
+
+    /// Returns the target of a datagram socket, live or freed, if it has one (connect(2)).
+    pub fn target(&self) -> Option<FileRef>
+        ensures some { IfSome result (λ to. self.now.state ≡ State.Sends to) }
+        ensures none { IfNone result ((to : ℕ) → ¬ (self.now.state ≡ State.Sends to)) }
+    {
+        self.form.target()
+    }
+
+    /// Returns whether it is a datagram socket.
+    #[inline(always)]
+    pub fn is_datagram(&self) -> bool
+        ensures { result ≡ is_datagram self.now.kind }
+    {
+        matches!(self.kind(), SockType::Dgram)
     }
 
     /// Returns what shutdown(2) has closed.

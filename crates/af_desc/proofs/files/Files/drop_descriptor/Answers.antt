@@ -4,7 +4,6 @@ use Rattle.std.specs.FinMap as map
 use Rattle.std.specs.Option.{option_map_or}
 use Rattle.std.proofs.lemmas.List.Sums.{sum_by-append}
 use Rattle.af_base.specs.Counts.{count_in, one}
-use Rattle.af_base.specs.declared.events.SockType.TheVariants.{Stream}
 use Rattle.af_base.specs.Names.{set_of}
 use Rattle.af_base.specs.World.{Map}
 use Rattle.af_base.proofs.PlacesAndCounts.{count-cons}
@@ -16,6 +15,7 @@ use Rattle.af_mark.specs.Grey.{AreGrey}
 use Rattle.af_mark.specs.MarksView.{is_grey_color}
 use Rattle.af_mark.specs.declared.color.Color.{Color}
 use Rattle.af_desc.specs.FilesView.{FilesInvariant, FilesView, after_end, freed, name_in, without, without_file_ref}
+use Rattle.af_listen.specs.NameSets.{names_in}
 use Rattle.af_desc.proofs.FilesInvariant.{counted-fewer, filed-counted, filed-removed, seen, seen-without, white-gone}
 use Rattle.af_desc.proofs.FileNames.{named-gone}
 use Rattle.af_desc.proofs.files.Files.drop_descriptor.Goals.{After-drop_descriptor_ref}
@@ -98,7 +98,9 @@ invariant_of-self-then-is_empty c =
     let nameless = ap (λ r. name_in r.files k) one.counts ∙ one.nameless (c.in-Some.is ∙ ap Some c.if-bare.true) in
     let few = (white-gone rows.marks rows.marks a.epoch a.bound a.next a.white h.whites k k _ _ refl refl refl).1 in
     filed-removed rows c.remove-kind.new.self _ _ _ _ _ _ _ h k a.names a.unreferenced.items (vec_capacity a.unreferenced) c.remove-kind.ensures.removed c.remove-kind.ensures.space
-    (named-gone (set_of Stream) a.names rows.files h.named k nameless) (struck-last a.unreferenced.items k) (omega arith) (none-grey _ a.grey.items k none h.listed.1) a.white (omega (arith, few))
+    (λ kind. named-gone (set_of kind) (names_in a.names kind) rows.files (h.named kind) k
+    nameless) (struck-last a.unreferenced.items k) (omega arith)
+    (none-grey _ a.grey.items k none h.listed.1) a.white (omega (arith, few))
 
 pub returns-then-is_empty-clause-removed : goal.returns-then-is_empty-clause-removed
 returns-then-is_empty-clause-removed c = λ _.

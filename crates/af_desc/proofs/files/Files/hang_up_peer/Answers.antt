@@ -2,7 +2,7 @@ use Rattle.std.proofs.Common.{◌≡◌, ℕ, refl, sym, ap}
 use Rattle.std.specs.Prelude.{Option, Some, None, option_map}
 use Rattle.af_base.specs.World.{File, Map, Socket}
 use Rattle.af_base.specs.declared.events.State.{State}
-use Rattle.af_base.specs.declared.events.State.TheVariants.{Idle, Listening, Connected, HungUp}
+use Rattle.af_base.specs.declared.events.State.TheVariants.{Idle, Listening, Connected, HungUp, Sends}
 use Rattle.af_desc.specs.FilesView.{after_end, after_hangup, hung_up}
 use Rattle.af_desc.proofs.FilesInvariant.{socket_changed}
 use Rattle.af_desc.proofs.files.Files.hang_up_peer.Goals as goal
@@ -16,6 +16,7 @@ no_peer (Some s) files none = by s.state (λ peer e. none peer (ap Some e)) wher
   by (Listening most) none = refl
   by (Connected peer) none = absurd (none peer refl)
   by HungUp none = refl
+  by (Sends to) none = refl
 
 pub returns-in_default : goal.returns-in_default
 returns-in_default c = ap (λ (fs : Map File). record c.args.self.now { files = fs }) (sym (no_peer c.args.gone.now c.args.self.now.files c.in_default.ensures.none))

@@ -6,14 +6,14 @@ use Rattle.std.specs.FinMap.{nat_cmp-IsAntisymmetric}
 use Rattle.std.specs.Ordering.{eq_by_cmp, nat_cmp}
 use Rattle.std.specs.Option.{option_map}
 use Rattle.std.proofs.lemmas.Bool.{eqb-true}
-use Rattle.af_base.specs.Changes.{change_socket_at, connected, file_with}
-use Rattle.af_base.specs.Steps.{connected_socket, idle_socket}
+use Rattle.af_base.specs.Changes.{change_socket_at, file_with}
+use Rattle.af_base.specs.Steps.{paired_socket, idle_socket}
 use Rattle.af_base.specs.World.{AsSocket, File, Map, Socket}
 use Rattle.af_base.proofs.AllowedSteps.{get-change_at}
 use Rattle.af_base.proofs.StaysWithin.{len-insert_most}
 use Rattle.af_ledger.specs.Counted.{more, uncounted}
 use Rattle.af_mark.specs.Grey.{unmarked}
-use Rattle.af_desc.specs.FilesView.{FilesView, changed, entered, name_of, paired}
+use Rattle.af_desc.specs.FilesView.{FilesView, changed, entered, name_of, paired, paired_with}
 use Rattle.af_desc.specs.FileTableView.{file_of, with_row, with_socket}
 use Rattle.af_desc.proofs.FilesInvariant.{filed-entered, filed-reserved, seen, seen-entered, socket_changed}
 use Rattle.af_desc.proofs.files.Files.make_two.Goals as goal
@@ -55,22 +55,29 @@ invariant_of-self-2 c =
     let marks = ap (λ r. map.len r.marks) roomy.rows in
     let one = filed-entered c.reserve.new.rows first.new.self _ _ _ _ _ _ _ reserved (file_of c.new_idle-idle.result) p first.ensures.pushed first.ensures.new first.ensures.uncounted first.ensures.unmarked (ap (λ o. name_of (file_of o)) c.new_idle-idle.ensures)
     (omega (arith, fits, roomy.fits, counts)) (omega (arith, greys, roomy.grey_fits, marks)) _ c.more_embryos-self-inside.ensures in
-    let two = filed-entered first.new.self second.new.self _ _ _ _ _ _ _ one (file_of c.new_connected-connected.result) p second.ensures.pushed second.ensures.new second.ensures.uncounted second.ensures.unmarked (ap (λ o. name_of (file_of o)) c.new_connected-connected.ensures)
+    let two = filed-entered first.new.self second.new.self _ _ _ _ _ _ _ one
+    (file_of c.new_paired-paired.result) p second.ensures.pushed second.ensures.new
+    second.ensures.uncounted second.ensures.unmarked
+    (ap (λ o. name_of (file_of o)) c.new_paired-paired.ensures)
     (omega (arith, fits, roomy.fits, counts, ap (λ r. map.len r.counts) first.ensures.pushed, len-insert_most c.reserve.new.rows.counts a.next (more p uncounted)))
     (omega (arith, greys, roomy.grey_fits, marks, ap (λ r. map.len r.marks) first.ensures.pushed, len-insert_most c.reserve.new.rows.marks a.next unmarked)) _ c.more_embryos-self-inside-2.ensures in
-    let all = socket_changed second.new.self c.connect.new.self _ _ _ _ _ _ _ two c.push-first.result (connected c.push-second.result) (λ s. refl) c.connect.ensures in
+    let all = socket_changed second.new.self c.pair_with.new.self _ _ _ _ _ _ _ two
+    c.push-first.result (paired_with c.push-second.result) (λ s. refl) c.pair_with.ensures in
     let low = all.last in
     record { last = omega (arith, low); begins = all.begins; named = all.named; unreferenced_listed = all.unreferenced_listed; fits = all.fits; listed = all.listed; backlogged = all.backlogged; whites = (let bound = all.whites.0 in omega (arith, bound), all.whites.1); space = all.space }
 
--- The first of two new files, once its socket is connected.
-first_connected : (files : Map File) (n peer : ℕ) (s : Socket) (y : File) → change_socket_at (connected peer) (map.insert (map.insert files n (AsSocket s)) (n + 1) y) n ≡ map.insert (map.insert files n (AsSocket (connected peer s))) (n + 1) y
-first_connected files n peer s y = map.same_map nat_cmp_total nat_cmp-IsAntisymmetric _ _ (λ q.
+-- The first of two new files, once its socket has the other one.
+first_paired : (files : Map File) (n other : ℕ) (s : Socket) (y : File)
+    → change_socket_at (paired_with other)
+    (map.insert (map.insert files n (AsSocket s)) (n + 1) y) n
+    ≡ map.insert (map.insert files n (AsSocket (paired_with other s))) (n + 1) y
+first_paired files n other s y = map.same_map nat_cmp_total nat_cmp-IsAntisymmetric _ _ (λ q.
     get-change_at g (map.insert (map.insert files n (AsSocket s)) (n + 1) y) n q
     ∙ ap (option_map (λ z. cond (eq_by_cmp nat_cmp q n) (g z) z)) (got q (AsSocket s))
     ∙ each q (map.get files q) (eq_by_cmp nat_cmp q n) (eq_by_cmp nat_cmp q (n + 1)) (unsigned_tied q n) (unsigned_tied q (n + 1))
     ∙ sym (got q (g (AsSocket s)))) where
       g : File → File
-      g = file_with (connected peer)
+      g = file_with (paired_with other)
 
       got : (q : ℕ) (z : File) → map.get (map.insert (map.insert files n z) (n + 1) y) q ≡ cond (eq_by_cmp nat_cmp q (n + 1)) (Some y) (cond (eq_by_cmp nat_cmp q n) (Some z) (map.get files q))
       got q z = map.get-insert nat_cmp_total (map.insert files n z) (n + 1) y q ∙ ap (cond (eq_by_cmp nat_cmp q (n + 1)) (Some y)) (map.get-insert nat_cmp_total files n z q)
@@ -91,16 +98,24 @@ returns-clause-ok c =
     let first = c.push-first in
     let second = c.push-second in
     let x = file_of c.new_idle-idle.result in
-    let y = file_of c.new_connected-connected.result in
+    let y = file_of c.new_paired-paired.result in
     let lower : c.new_idle-idle.result ≡ Some (idle_socket kind) = search rules in
-    let higher : c.new_connected-connected.result ≡ Some (connected_socket kind n) = search rules in
+    let higher : c.new_paired-paired.result ≡ Some (paired_socket kind n) = search rules in
     let one = with_row n x p first.new.self.room a.rows in
     let two = second.ensures.pushed ∙ ap (with_row (n + 1) y p second.new.self.room) (first.ensures.pushed ∙ ap (with_row n x p first.new.self.room) c.reserve.ensures.rows) in
-    let rows = c.connect.ensures ∙ (λ i. with_socket (two i) (first.ensures.file i) (connected (second.ensures.file i))) in
+    let rows = c.pair_with.ensures
+    ∙ (λ i. with_socket (two i) (first.ensures.file i) (paired_with (second.ensures.file i))) in
     let next : n + 2 ≡ n + 1 + 1 = omega arith in
     let old = seen a.epoch a.bound a.rows n in
     (λ i. seen a.epoch a.bound (rows i) (next i))
-    ∙ ap (changed (connected (n + 1)) n) (seen-entered a.epoch a.bound p one (n + 1) second.new.self.room y ∙ ap (entered p y) (seen-entered a.epoch a.bound p a.rows n first.new.self.room x))
-    ∙ (λ i. changed (connected (n + 1)) n (entered p (file_of (higher i)) (entered p (file_of (lower i)) old)))
-    ∙ ap {B = FilesView} (λ files. record (paired p kind old) { files = files }) (first_connected old.files n (n + 1) (idle_socket kind) (AsSocket (connected_socket kind n)))
+    ∙ ap (changed (paired_with (n + 1)) n)
+    (seen-entered a.epoch a.bound p one (n + 1) second.new.self.room y
+    ∙ ap (entered p y) (seen-entered a.epoch a.bound p a.rows n first.new.self.room x))
+    ∙ (λ i. changed (paired_with (n + 1)) n
+    (entered p (file_of (higher i)) (entered p (file_of (lower i)) old)))
+    ∙ ap {B = FilesView} (λ files. record (paired p kind old) {
+      files =
+          files;
+    }) (first_paired old.files n (n + 1) (idle_socket kind)
+    (AsSocket (paired_socket kind n)))
     ∙ ap (paired p kind) c.self.view_is

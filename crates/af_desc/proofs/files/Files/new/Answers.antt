@@ -2,8 +2,6 @@ use Rattle.std.proofs.Common.{◌+◌, ◌∙◌, ap, nat_eq, arith}
 use Rattle.std.specs.FinMap as map
 use Rattle.std.specs.Prelude.{is_some}
 use Rattle.std.specs.Ordering.{nat_cmp}
-use Rattle.af_base.specs.declared.events.SockType.TheVariants.{Stream}
-use Rattle.af_base.specs.Names.{set_of}
 use Rattle.af_base.proofs.ExactLists.{just-empty}
 use Rattle.af_ledger.specs.Counted.{CountView, places_in}
 use Rattle.af_mark.specs.Grey.{MarkView, color_in, colors_in}
@@ -23,7 +21,7 @@ invariant_of-result c =
     record {
       last = ap (λ n. n + 1) c.new.ensures.last;
       begins = ap (λ m. map.contains_key m 0) none ∙ ap is_some (map.get-empty nat_cmp 0);
-      named = named-none-yet (set_of Stream) c.new-4.result c.new.result.files c.new-4.ensures none;
+      named = named-none-yet c.new-4.result c.new.result.files c.new-4.ensures none;
       unreferenced_listed = just-empty (λ n. nat_eq (places_in n) 0) c.new.result.counts _ uncounted c.new-2.ensures.items;
       fits = omega (arith, ap map.len uncounted ∙ map.len-empty nat_cmp CountView);
       listed = (
