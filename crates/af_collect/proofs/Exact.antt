@@ -11,7 +11,7 @@ use Rattle.af_base.specs.World.{AsSocket, File, Map, Message, Plain, Process, So
 use Rattle.af_base.specs.Places.{attached_in, backlog_of, contents, queue_of, table_at}
 use Rattle.af_base.specs.Counts.{charge, count_in, one, refs, total_of, waiting, total}
 use Rattle.af_base.specs.Changes.{add_file, add_process, add_user, dequeued, install, installed, limited, push_message, pushed, remove_process, set_limit, taken_out, uninstall, with_process, with_queue, with_socket, install_all}
-use Rattle.af_base.specs.Steps.{spawned, connected_socket, with_pair}
+use Rattle.af_base.specs.Steps.{spawned, paired_socket, with_pair}
 use Rattle.af_base.specs.Unheld.{without}
 use Rattle.af_base.specs.Whole.{IsWhole, IsMessageWithin, IsSound, IsWithin}
 use Rattle.af_base.proofs.NewFiles.{fresh_process, total-empty, fresh_file, whole-spawned}
@@ -428,8 +428,8 @@ pub exact-pair : (w : World) (kind : SockType) (k : Tally) → is_full w 2 ≡ f
 exact-pair w kind k fits h =
     let a = w.next_ino in
     let b = w.next_ino + 1 in
-    let first = AsSocket (connected_socket kind b) in
-    let second = AsSocket (connected_socket kind a) in
+    let first = AsSocket (paired_socket kind b) in
+    let second = AsSocket (paired_socket kind a) in
     let new : finmap.get w.files a ≡ None = fresh_file w a h.whole (omega arith) in
     let other : finmap.get (add_file w first).files b ≡ None = insert-other w.files a first b (told_apart b a (λ e. omega (arith, e))) ∙ fresh_file w b h.whole (omega arith) in
     let one : Tally = record k { counts = finmap.insert k.counts a uncounted } in

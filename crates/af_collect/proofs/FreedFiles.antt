@@ -73,6 +73,7 @@ module _ (m : Map File) (f : ℕ) where
   by-state (state.Listening b) = refl
   by-state (state.Connected p) = refl
   by-state state.HungUp = refl
+  by-state (state.Sends to) = refl
 
   -- It is so whether the one is a socket, a plain file or unknown.
   by-file : (o : Option File) → after_end (option_and_then socket_of o) (map.remove m f) ≡ drop_with (option_map_or state_of o state.Idle) f m

@@ -18,6 +18,7 @@ pub mod PassChanges
 pub mod Looks
 pub mod SparedFiles
 pub mod EmptiedSockets
+pub mod DrainedSockets
 pub mod TablePlaces
 pub mod SocketChanges
 -- The duties of each change to the pass: lost files are shaded first, and its invariant holds.

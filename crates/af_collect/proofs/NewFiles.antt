@@ -13,8 +13,8 @@ use Rattle.af_base.specs.declared.events.State.TheVariants as state
 use Rattle.af_base.specs.Changes.{add_file, change_at, connected, install, install_all, installed, queued, with_socket}
 use Rattle.af_base.specs.Counts.{waiting}
 use Rattle.af_base.specs.Places.{contents, table_at}
-use Rattle.af_base.specs.Refusals.{is_full, no_socket, process_at, room_of, socket_at, socket_of}
-use Rattle.af_base.specs.Steps.{connected_socket, with_pair}
+use Rattle.af_base.specs.Refusals.{is_datagram, is_full, no_socket, process_at, room_of, socket_at, socket_of}
+use Rattle.af_base.specs.Steps.{connected_socket, paired_socket, with_pair}
 use Rattle.af_base.specs.Table.{lowest_free}
 use Rattle.af_base.specs.World.{AsSocket, File, IsLive, Map, Socket, World}
 use Rattle.af_base.proofs.Elements.{Contains-none}
@@ -45,9 +45,13 @@ use Rattle.af_collect.specs.declared.holdings.Holdings.TheInside.{Inside}
 use Rattle.af_collect.specs.declared.store.Store.TheInside.{Inside as StoreInside}
 use Rattle.af_collect.proofs.StoreInvariant.{kept_made, kept_socket, kept_tables, made_spared, BothInvariants, both-same, seen-world, shown}
 
--- The needs of connect(2): room for a file, a client never connected, and a listener with room.
+-- The needs of connect(2): room for a file, a client for connections that was never connected, and a
+-- listener with room.
 abbrev pub Connects : World → ℕ → ℕ → Type 0
-Connects w s l = (is_full w 1 ≡ false) × (is_none (socket_at w s) ≡ false) × IfSome (socket_at w s) (λ x. x.state ≡ state.Idle) × (is_none (socket_at w l) ≡ false) × IfSome (socket_at w l) (λ x. length x.backlog < room_of x.state)
+Connects w s l = (is_full w 1 ≡ false) × (is_none (socket_at w s) ≡ false)
+    × IfSome (socket_at w s) (λ x. is_datagram x.kind ≡ false)
+    × IfSome (socket_at w s) (λ x. x.state ≡ state.Idle) × (is_none (socket_at w l) ≡ false)
+    × IfSome (socket_at w l) (λ x. length x.backlog < room_of x.state)
 
 -- The needs of a new file: room for it, a process, and a free descriptor below its limit (open(2)).
 abbrev pub Opens : World → ℕ → ℕ → Type 0
@@ -139,8 +143,8 @@ module _ (p : StoreInside) (h : Inside) (was : BothInvariants p h.procs h.files 
       let fs = n ∷ (n + 1) ∷ [] in
       let q = process_at w pid in
       let asked : Pairs w pid lower higher = subst (λ u. Pairs u pid lower higher) (seen-world p h o opened seen) needs in
-      let one = AsSocket (connected_socket kind (n + 1)) in
-      let two = AsSocket (connected_socket kind n) in
+      let one = AsSocket (paired_socket kind (n + 1)) in
+      let two = AsSocket (paired_socket kind n) in
       let made : Tally = record k { counts = map.insert (map.insert k.counts n uncounted) (n + 1) uncounted } in
       let numbered = was.0.whole.files_numbered in
       let apart = told_apart n (n + 1) (λ e. omega (arith, e)) in
@@ -161,7 +165,8 @@ module _ (p : StoreInside) (h : Inside) (was : BothInvariants p h.procs h.files 
   no_room None there idle room = false≢true (sym there)
   no_room (Some x) there idle room = let none : room_of x.state ≡ 0 = ap room_of idle in omega (arith, room, none)
 
-  module _ (kind : SockType) (s l : ℕ) (asked : Connects w s l) where
+  module _ (kind : SockType) (stream : is_datagram kind
+      ≡ false) (s l : ℕ) (asked : Connects w s l) where
     abbrev embryo : File
     embryo = AsSocket (connected_socket kind s)
 
@@ -178,22 +183,32 @@ module _ (p : StoreInside) (h : Inside) (was : BothInvariants p h.procs h.files 
     -- The listener is another socket than the client, and stays as it is.
     pub stays : map.get v.files l ≡ map.get w.files l
     stays =
-        let apart = told_apart l s (λ same. no_room (socket_at w s) asked.1 asked.2 (subst (λ q. IfSome (socket_at w q) (λ x. length x.backlog < room_of x.state)) same asked.4)) in
-        let at = is-socket w l asked.3 in
+        let apart = told_apart l s
+        (λ same. no_room (socket_at w s) asked.1 asked.3
+        (subst (λ q. IfSome (socket_at w q) (λ x. length x.backlog < room_of x.state)) same
+        asked.5)) in
+        let at = is-socket w l asked.4 in
         others-changed (add_file w embryo) s (connected n) l apart ∙ still-blank w embryo (blank-connected kind s) was.0.whole l (ap is_some at)
 
     -- An embryo more, which is the last in the backlog of a listener that has room for it.
     pub stands-embryo : BothInvariants p h.procs (changed (queued n) l (changed (connected n) s (entered Backlog embryo h.files))) h.ledger
     stands-embryo =
         let at = is-socket w s asked.1 in
-        let alone = subst (λ o. IfSome (option_and_then socket_of o) (λ x. x.state ≡ state.Idle)) at asked.2 in
-        let heard = is-socket w l asked.3 in
-        let fit = subst (λ o. IfSome (option_and_then socket_of o) (λ x. length x.backlog < room_of x.state)) heard asked.4 in
+        let client = subst (λ o. IfSome (option_and_then socket_of o) (λ x. is_datagram x.kind
+        ≡ false)) at asked.2 in
+        let alone = subst (λ o. IfSome (option_and_then socket_of o) (λ x. x.state
+        ≡ state.Idle)) at asked.3 in
+        let heard = is-socket w l asked.4 in
+        let fit = subst (λ o. IfSome (option_and_then socket_of o)
+        (λ x. length x.backlog < room_of x.state)) heard asked.5 in
         let made : Tally = record k { counts = map.insert k.counts n uncounted } in
         let live : IsLive v n = live-changed (add_file w embryo) s (connected n) n ∙ ap is_some (insert-here w.files n embryo) in
         both-same _ (with_socket v l (queued n)) _ (with_ref Backlog n made) _ (born n h.files.marks)
         refl (ap (λ m. kept_of m h.ledger) (entered-held Backlog h.files.counts n)) refl
-        (exact-queued v l n (unwrap_or (socket_at w l) no_socket) made (stays ∙ heard) live new fit (exact-embryo w s kind (unwrap_or (socket_at w s) no_socket) k at alone asked.0 was.0))
+        (exact-queued v l n (unwrap_or (socket_at w l) no_socket) made (stays
+        ∙ heard) live new fit
+        (exact-embryo w s kind (unwrap_or (socket_at w s) no_socket) k at client alone stream
+        asked.0 was.0))
         (kept_socket l (queued n) (λ e. moves_queued begun v l n (made_spared was.1 e n (omega arith))) (λ _. covers_queued begun v l n (is_marked (born n h.files.marks)) (below p.progress.visited))
         (kept_socket s (connected n) (λ _. moves_same (add_file w embryo) s (connected n) (λ y. refl) begun) (λ _. covers_same (add_file w embryo) s (connected n) (λ y. refl) begun (is_marked (born n h.files.marks)) (below p.progress.visited))
         (kept_made embryo refl was.0.whole.files_numbered was.1)))

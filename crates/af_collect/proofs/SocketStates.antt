@@ -11,7 +11,7 @@ use Rattle.af_base.specs.World.{AsSocket, File, IsLive, Message, Plain, World, S
 use Rattle.af_base.specs.Changes.{push_message, add_file, file_with, listening, shut, with_name, with_socket, connected, queued, dequeued, install}
 use Rattle.af_base.specs.Counts.{total, charge, count_in, total_of, waiting}
 use Rattle.af_base.specs.Places.{queue_at, queue_of, attached_in, backlog_at}
-use Rattle.af_base.specs.Refusals.{no_socket, socket_at, socket_of, is_full, room_of}
+use Rattle.af_base.specs.Refusals.{no_socket, socket_at, socket_of, is_datagram, is_full, room_of}
 use Rattle.af_base.specs.Whole.{IsMessageWithin, IsWhole, IsWithin}
 use Rattle.af_base.specs.declared.events.SockType.{SockType}
 use Rattle.af_base.specs.declared.events.State.TheVariants as state
@@ -118,7 +118,8 @@ module _ (w : World) (s : ℕ) (g : Socket → Socket) where
           }
 
 -- The socket of a number is the one of its row.
-if-there : (P : Socket → Type 0) (w : World) (s : ℕ) (x : Socket) → map.get w.files s ≡ Some (AsSocket x) → IfSome (socket_at w s) P → P x
+pub if-there : (P : Socket → Type 0) (w : World) (s : ℕ) (x : Socket) → map.get w.files s
+    ≡ Some (AsSocket x) → IfSome (socket_at w s) P → P x
 if-there P w s x at h = subst (λ o. IfSome (option_and_then socket_of o) P) at h
 
 -- A socket that got a name that nobody had in its set.
@@ -129,11 +130,18 @@ exact-bound w s name k fits free h = exact-altered w s (with_name name) (λ x. r
     let none = if-there (λ x. named w.files (set_of x.kind) name ≡ None) w s x at free in
     (whole-bound w s name x at (named-none w (set_of x.kind) name none) h.whole, within-bound w s name x h.within at fits)) h
 
--- A socket that was never connected, and listens now.
-pub exact-listening : (w : World) (s b : ℕ) (k : Tally) → IfSome (socket_at w s) (λ x. x.state ≡ state.Idle) → 1 ≤ b → b ≤ MAX_BACKLOG → IsExact w k → IsExact (with_socket w s (listening b)) k
-exact-listening w s b k idle some few h = exact-altered w s (listening b) (λ x. refl) (λ x. refl) k (λ x at.
-    let alone = if-there (λ y. y.state ≡ state.Idle) w s x at idle in
-    (whole-listening w s b x at alone h.whole, within-listening w s b x h.within at alone some few)) h
+-- A socket for connections that was never connected, and listens now.
+pub exact-listening : (w : World) (s b : ℕ) (k : Tally)
+    → IfSome (socket_at w s) (λ x. is_datagram x.kind ≡ false)
+    → IfSome (socket_at w s) (λ x. x.state ≡ state.Idle) → 1 ≤ b → b ≤ MAX_BACKLOG → IsExact w k
+    → IsExact (with_socket w s (listening b)) k
+exact-listening w s b k stream idle some few h =
+    exact-altered w s (listening b) (λ x. refl) (λ x. refl) k (λ x at.
+    let alone = if-there (λ y. y.state ≡ state.Idle) w s x at idle in (
+      whole-listening w s b x at (if-there (λ y. is_datagram y.kind
+          ≡ false) w s x at stream) alone h.whole,
+      within-listening w s b x h.within at alone some few,
+    )) h
 
 -- A socket whose ends are closed.
 pub exact-shut : (w : World) (s : ℕ) (input output : Bool) (k : Tally) → IsExact w k → IsExact (with_socket w s (shut input output)) k
@@ -150,9 +158,11 @@ idle-alone w s k = by (map.get w.files s) refl where
       nil_from_length x.backlog (omega (arith, none, (k.sockets s x e).backlog))
 
 -- An embryo more, which waits for its place in a backlog, and the client that is connected to it.
-pub exact-embryo : (w : World) (c : ℕ) (kind : SockType) (x : Socket) (k : Tally) → map.get w.files c ≡ Some (AsSocket x) → x.state ≡ state.Idle → is_full w 1 ≡ false → IsExact w k
+pub exact-embryo : (w : World) (c : ℕ) (kind : SockType) (x : Socket) (k : Tally)
+    → map.get w.files c ≡ Some (AsSocket x) → is_datagram x.kind ≡ false → x.state ≡ state.Idle
+    → is_datagram kind ≡ false → is_full w 1 ≡ false → IsExact w k
     → IsExact (with_socket (add_file w (AsSocket (connected_socket kind c))) c (connected w.next_ino)) (record k { counts = map.insert k.counts w.next_ino uncounted })
-exact-embryo w c kind x k at idle fits h =
+exact-embryo w c kind x k at client idle stream fits h =
     let n = w.next_ino in
     let embryo = AsSocket (connected_socket kind c) in
     let base = add_file w embryo in
@@ -160,7 +170,7 @@ exact-embryo w c kind x k at idle fits h =
     let stranger = next-new w k n h (omega arith) in
     let more = agrees-new_file w embryo k (fresh_file w n h.whole (omega arith)) refl refl h.agrees in
     record {
-      whole = whole-made w c kind x h.whole at idle;
+      whole = whole-made w c kind x h.whole at idle client stream;
       within = within-made w c kind x h.whole at idle h.within fits;
       agrees = agrees-altered base c (connected n) (λ y. refl) (λ y. refl) grown (agrees-entered base n k stranger more);
       counted = λ g. has-entered k n g ∙ ap (cond (nat_eq g n) true) (h.counted g) ∙ sym (live-added w embryo g) ∙ sym (live-changed base c (connected n) g);

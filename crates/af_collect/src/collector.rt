@@ -4,7 +4,7 @@ ghost use Rattle.std.specs.Prelude.{IsTrue, false, nat_eq, slice_get};
 ghost use Rattle.af_base.specs.declared.limits.TheConstants.{MAX_FILES};
 ghost use Rattle.af_base.specs.World.{IsLive};
 ghost use Rattle.af_base.specs.Counts.{refs};
-ghost use Rattle.af_base.specs.Places.{backlog_at, held_by, queue_at, table_at};
+ghost use Rattle.af_base.specs.Places.{Holds, backlog_at, held_by, queue_at, table_at};
 ghost use Rattle.af_base.specs.Unheld.{Settles, without};
 ghost use Rattle.af_base.specs.Whole.{IsSound};
 ghost use Rattle.af_collect.specs.Losing.{places_at, without_place};
@@ -14,7 +14,7 @@ ghost use Rattle.af_mark.specs.MarksView.{forgotten};
 ghost use Rattle.af_collect.specs.StoreView.{MarksAll};
 
 use crate::progress::{PassProgress, Stage};
-use crate::shading::{shade_embryo, shade_first};
+use crate::shading::{shade_embryo, shade_first, shade_held};
 use crate::store::Store;
 use af_base::ids::{Fd, FileRef, Pid};
 
@@ -98,6 +98,19 @@ impl Store {
             // Backlogs hold live files: that is what a whole world says of them.
             self.holdings.lemma_is_whole();
             shade_embryo(&mut self.holdings, listener, 0);
+        }
+    }
+
+    /// Marks the files that a socket is about to lose, which are all that it holds, while marking.
+    pub(crate) fn shade_held(&mut self, socket: &FileRef)
+        requires spared { NotBegunGarbage self.old.pass socket.now }
+        ensures frame { self.new ≡ record self.old { marks = self.new.marks } }
+        ensures marked { MarksAll (Holds self.old.world socket.now) self.old self.new }
+    {
+        if self.is_marking() {
+            // A held file is live, as in each well-formed world.
+            self.holdings.lemma_is_whole();
+            shade_held(&mut self.holdings, socket);
         }
     }
 

@@ -4,7 +4,7 @@
 //!
 //! - for new files: `open_at`, `socket_at`, `pair_at`, `make_embryo`
 //! - for descriptors: `table_in`, `replace`, `take_embryo`, `close`
-//! - for messages: `put_msg`, `take_msg`, `peek_msg`
+//! - for messages: `put_msg`, `take_msg`, `peek_msg`; `aim`, where what waits is lost
 //! - for processes: `copy_for_fork`, `remove_process`
 //! - for what is unreferenced, or garbage: `release`, `slice`, `collect`
 //!

@@ -14,7 +14,7 @@ ghost use Rattle.af_base.specs.Counts.{total};
 ghost use Rattle.af_base.specs.Refusals.{socket_at};
 ghost use Rattle.af_base.specs.Unheld.{Settles};
 ghost use Rattle.af_base.specs.Whole.{IsMessageWithin, IsSound};
-ghost use Rattle.af_base.specs.declared.events.SockType.TheVariants.{Seqpacket};
+ghost use Rattle.af_base.specs.Take.{keeps_borders};
 ghost use Rattle.af_collect.specs.Limits.{IsBelowLimit, IsOfProcess};
 ghost use Rattle.af_collect.specs.Receiving.{CanReceive, taken_at};
 ghost use Rattle.af_collect.specs.Keeping.{NotBegunGarbage};
@@ -202,7 +202,7 @@ impl Store {
         }) }
         ensures err { OnErr result (self.new ≡ self.old) }
         ensures succeeds { IfSome (socket_at self.old.world socket.now) (λ s.
-            s.kind ≡ Seqpacket) → IsOk result }
+            keeps_borders s.kind ≡ true) → IsOk result }
     {
         let holdings = &mut self.holdings;
         holdings.files.take(socket, max, taken)?;

@@ -45,6 +45,7 @@ impl Holdings {
     }
 
     /// Drops all places that a file holds. Takes no memory.
+    #[inline(always)]
     pub(crate) fn empty(&mut self, file: &FileRef)
         ensures { self.new ≡ record self.old {
           world = emptied (nat_eq file.now) self.old.world;

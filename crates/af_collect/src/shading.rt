@@ -50,7 +50,7 @@ pub fn shade_contents(holdings: &mut Holdings, file: &FileRef, contents: &Conten
 /// Marks all that the file holds.
 #[tactic(auto, using(crate::proofs::LostFiles::held_parts, crate::proofs::ShadedMarks::shaded_append))]
 #[inline(never)]
-fn shade_held(holdings: &mut Holdings, file: &FileRef)
+pub fn shade_held(holdings: &mut Holdings, file: &FileRef)
     ensures { Shades (held_by holdings.old.world file.now) holdings.old holdings.new }
 {
     shade_queue(holdings, file);

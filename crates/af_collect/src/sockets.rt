@@ -1,15 +1,18 @@
-//! Sockets that are made, named, made to listen and connected, and the embryos that wait to be
-//! accepted. Each call is one change of the world, and keeps the counts in step with it.
+//! Sockets that are made, named, made to listen, connected and aimed at others, and the embryos
+//! that wait to be accepted. Each call is one change of the world, and keeps the counts in step
+//! with it.
 ghost use Rattle.std.specs.Prelude.{◌≡◌, ◌<◌, ◌≤◌, ℕ, None, Some, IsTrue, IfSome, OnOk, OnErr};
-ghost use Rattle.std.specs.Prelude.{length, false, is_none, slice_get, true};
+ghost use Rattle.std.specs.Prelude.{length, false, is_none, nat_eq, option_copied, slice_get};
+ghost use Rattle.std.specs.Prelude.{true, unwrap_or};
 ghost use Rattle.std.specs.FinMap as finmap;
 ghost use Rattle.af_base.specs.World as world;
 ghost use Rattle.af_base.specs.Names.{is_name, named, set_of};
 ghost use Rattle.af_base.specs.Counts.{waiting};
 ghost use Rattle.af_base.specs.Places.{backlog_at, table_at};
-ghost use Rattle.af_base.specs.Changes.{add_file, dequeued, install, listening, queued, shut};
-ghost use Rattle.af_base.specs.Changes.{with_name, with_socket};
-ghost use Rattle.af_base.specs.Refusals.{is_full, room_of, socket_at};
+ghost use Rattle.af_base.specs.Changes.{add_file, aimed, dequeued, install, listening, queued};
+ghost use Rattle.af_base.specs.Changes.{sends_elsewhere, shut, with_name, with_socket};
+ghost use Rattle.af_base.specs.Pass.{emptied};
+ghost use Rattle.af_base.specs.Refusals.{is_datagram, is_full, room_of, socket_at};
 ghost use Rattle.af_base.specs.Steps.{idle_socket, with_embryo};
 ghost use Rattle.af_collect.specs.Limits.{IsBelowLimit};
 ghost use Rattle.af_collect.specs.Keeping.{NotBegunGarbage};
@@ -84,9 +87,12 @@ impl Store {
         holdings.files.bind(socket, name)
     }
 
-    /// Makes an idle socket that has a name wait for connections (listen(2)). At most `most`
-    /// embryos wait at it, from 1 to `MAX_BACKLOG`. On an error nothing has changed.
+    /// Makes an idle socket that has a name, and is no datagram socket, wait for connections
+    /// (listen(2)). At most `most` embryos wait at it, from 1 to `MAX_BACKLOG`. On an error nothing
+    /// has changed.
     pub fn listen(&mut self, socket: &FileRef, most: u32) -> Result<(), AllocError>
+        requires connections { IfSome (socket_at self.old.world socket.now) (λ s.
+            is_datagram s.kind ≡ false) }
         requires named { IfSome (socket_at self.old.world socket.now) (λ s.
             is_none s.name ≡ false) }
         requires idle { IfSome (socket_at self.old.world socket.now) (λ s. s.state ≡ State.Idle) }
@@ -98,6 +104,49 @@ impl Store {
     {
         let holdings = &mut self.holdings;
         holdings.files.listen(socket, most)
+    }
+
+    /// Lets a datagram socket send to `target`, which is live, or leaves it no target (connect(2)).
+    /// What waits there is lost where `loses` says that it sent to another. Takes no memory.
+    pub fn aim(&mut self, socket: &FileRef, target: Option<&FileRef>, loses: bool)
+        requires socket { is_none (socket_at self.old.world socket.now) ≡ false }
+        requires datagrams { IfSome (socket_at self.old.world socket.now) (λ s.
+            is_datagram s.kind ≡ true) }
+        requires target { IfSome (option_copied target) (λ to. world.IsLive self.old.world to) }
+        requires loses { IfSome (socket_at self.old.world socket.now) (λ s.
+            loses ≡ sends_elsewhere (unwrap_or (option_copied target) 0) s.state) }
+        requires spared { NotBegunGarbage self.old.pass socket.now }
+        ensures { self.new ≡ record self.old {
+          world = with_socket self.old.world socket.now
+              (aimed (unwrap_or (option_copied target.entry) 0));
+          marks = self.new.marks;
+          message_room = self.new.message_room;
+        } }
+    {
+        if loses {
+            // No embryo waits at a datagram socket, as in each well-formed world.
+            self.holdings.lemma_is_whole();
+            self.drain(socket);
+        }
+        let holdings = &mut self.holdings;
+        holdings.files.aim(socket, target);
+    }
+
+    /// Drops all that waits at a socket. While marking, it first marks the files there. Takes no
+    /// memory.
+    // Few events come here. Inlined, it would cost the others registers.
+    #[cold]
+    #[inline(never)]
+    fn drain(&mut self, socket: &FileRef)
+        requires spared { NotBegunGarbage self.old.pass socket.now }
+        ensures { self.new ≡ record self.old {
+          world = emptied (nat_eq socket.now) self.old.world;
+          marks = self.new.marks;
+          message_room = self.new.message_room;
+        } }
+    {
+        self.shade_held(socket);
+        self.holdings.empty(socket);
     }
 
     /// Closes the input of a socket if `input` says so, and its output if `output` does
@@ -112,8 +161,8 @@ impl Store {
     }
 
     /// Makes an embryo: a socket that is connected to `client`, which is idle, and the client to
-    /// it. Appends it to the backlog of a listener that has room for it (connect(2)). On an error
-    /// nothing has changed.
+    /// it. Neither is a datagram socket. Appends it to the backlog of a listener that has room for
+    /// it (connect(2)). On an error nothing has changed.
     pub fn make_embryo(
         &mut self,
         kind: SockType,
@@ -122,6 +171,9 @@ impl Store {
     ) -> Result<(), AllocError>
         requires full { is_full self.old.world 1 ≡ false }
         requires client { is_none (socket_at self.old.world client.now) ≡ false }
+        requires kind { is_datagram kind ≡ false }
+        requires connections { IfSome (socket_at self.old.world client.now) (λ s.
+            is_datagram s.kind ≡ false) }
         requires idle { IfSome (socket_at self.old.world client.now) (λ s. s.state ≡ State.Idle) }
         requires listener { is_none (socket_at self.old.world listener.now) ≡ false }
         requires room { IfSome (socket_at self.old.world listener.now) (λ s.

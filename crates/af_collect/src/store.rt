@@ -240,8 +240,9 @@ impl Store {
         Ok(())
     }
 
-    /// Makes two sockets that are connected to each other, at the two lowest free descriptors, for
-    /// which there is room (socketpair(2)). On an error it makes none, and nothing has changed.
+    /// Makes two sockets that are connected to each other, or datagram sockets that send to each
+    /// other, at the two lowest free descriptors, for which there is room (socketpair(2)). On an
+    /// error it makes none, and nothing has changed.
     pub fn make_two(
         &mut self,
         kind: SockType,
@@ -268,9 +269,9 @@ impl Store {
         Ok(())
     }
 
-    /// Makes two sockets that are connected to each other, at the two lowest free descriptors
-    /// (socketpair(2)): `room_for` and `make_two` by one look at the process. On an error it makes
-    /// none, and no process can see a change.
+    /// Makes two sockets that are connected to each other, or datagram sockets that send to each
+    /// other, at the two lowest free descriptors (socketpair(2)): `room_for` and `make_two` by one
+    /// look at the process. On an error it makes none, and no process can see a change.
     #[inline(always)]
     pub fn pair_at(
         &mut self,

@@ -1,7 +1,7 @@
-use Rattle.std.proofs.Common.{◌≡◌, refl, subst}
+use Rattle.std.proofs.Common.{◌≡◌, false, refl, subst}
 use Rattle.std.specs.Prelude.{IfSome}
 use Rattle.af_base.specs.Changes.{listening}
-use Rattle.af_base.specs.Refusals.{socket_at}
+use Rattle.af_base.specs.Refusals.{is_datagram, socket_at}
 use Rattle.af_base.specs.World.{World}
 use Rattle.af_ledger.specs.Tally.{kept_of}
 use Rattle.af_collect.proofs.SocketStates.{exact-listening, idle-alone}
@@ -25,8 +25,12 @@ both c =
     let was = stood p h c.holdings.view_is c.holdings.invariant c.self.invariant in
     let s = c.args.socket.now in
     let idle = subst (λ (v : World). IfSome (socket_at v s) (λ x. x.state ≡ state.Idle)) back c.requires.idle in
+    let stream = subst (λ (v : World). IfSome (socket_at v s) (λ x. is_datagram x.kind
+    ≡ false)) back c.requires.connections in
     let e = c.listen.ensures in
-    stands-socket c.listen.result p h _ e.err was s (listening c.args.most) (λ x. refl) e.ok (exact-listening w s c.args.most (kept_of h.files.counts h.ledger) idle c.requires.some c.requires.few was.0)
+    stands-socket c.listen.result p h _ e.err was s (listening c.args.most) (λ x. refl) e.ok
+    (exact-listening w s c.args.most (kept_of h.files.counts h.ledger) stream idle
+    c.requires.some c.requires.few was.0)
 
 pub invariant_of-holdings : goal.invariant_of-holdings
 invariant_of-holdings c = (both c).0

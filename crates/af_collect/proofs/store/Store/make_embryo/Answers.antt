@@ -18,9 +18,18 @@ enqueue-requires c =
     let l = c.args.listener.now in
     let was = stood p h c.holdings.view_is c.holdings.invariant c.self.invariant in
     let r = c.requires in
-    let asked = subst (λ (v : World). Connects v s l) (seen-world p h _ c.holdings.view_is c.self.view_is) (r.full, r.client, r.idle, r.listener, r.room) in
-    let same = ap (λ (fs : FilesView). socket_in fs.files l) c.in_ok-embryo.ensures.ok ∙ ap (option_and_then socket_of) (stays p h was c.args.kind s l asked) in
-    subst (λ o. IfSome o (λ x. length x.backlog < room_of x.state)) (sym same) asked.4
+    let asked = subst (λ (v : World). Connects v s l)
+    (seen-world p h _ c.holdings.view_is c.self.view_is) (
+      r.full,
+      r.client,
+      r.connections,
+      r.idle,
+      r.listener,
+      r.room,
+    ) in
+    let same = ap (λ (fs : FilesView). socket_in fs.files l) c.in_ok-embryo.ensures.ok
+    ∙ ap (option_and_then socket_of) (stays p h was c.args.kind r.kind s l asked) in
+    subst (λ o. IfSome o (λ x. length x.backlog < room_of x.state)) (sym same) asked.5
 
 both : (c : goal.After-enqueue) → BothInvariants c.self.inside c.holdings.inside.procs c.enqueue.new.self c.holdings.inside.ledger
 both c =
@@ -30,10 +39,18 @@ both c =
     let l = c.args.listener.now in
     let was = stood p h c.holdings.view_is c.holdings.invariant c.self.invariant in
     let r = c.requires in
-    let asked = subst (λ (v : World). Connects v s l) (seen-world p h _ c.holdings.view_is c.self.view_is) (r.full, r.client, r.idle, r.listener, r.room) in
+    let asked = subst (λ (v : World). Connects v s l)
+    (seen-world p h _ c.holdings.view_is c.self.view_is) (
+      r.full,
+      r.client,
+      r.connections,
+      r.idle,
+      r.listener,
+      r.room,
+    ) in
     let made = c.in_ok-embryo.ensures in
     subst (λ fs. BothInvariants p h.procs fs h.ledger) (sym (c.enqueue.ensures ∙ (λ i. changed (queued (made.ino i)) l (made.ok i))))
-    (stands-embryo p h was c.args.kind s l asked)
+    (stands-embryo p h was c.args.kind r.kind s l asked)
 
 pub invariant_of-holdings-2 : goal.invariant_of-holdings-2
 invariant_of-holdings-2 c = (both c).0
