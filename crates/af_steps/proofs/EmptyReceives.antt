@@ -4,7 +4,7 @@ use Rattle.std.specs.Prelude.{None, min, nat_lt, if◌then◌else◌}
 use Rattle.std.specs.List.{zip}
 use Rattle.std.proofs.lemmas.List.{nil_from_length}
 use Rattle.af_base.specs.declared.events.SockType.{SockType}
-use Rattle.af_base.specs.declared.events.SockType.TheVariants.{Seqpacket, Stream}
+use Rattle.af_base.specs.declared.events.SockType.TheVariants.{Dgram, Seqpacket, Stream}
 use Rattle.af_base.specs.declared.events.Reply.TheVariants as reply
 use Rattle.af_base.specs.declared.events.Step.TheVariants as step
 use Rattle.af_base.specs.Changes.{install_all, with_queue}
@@ -44,6 +44,7 @@ module _ {w : World} {p n f : ℕ} {q : Process} {x : Socket} (has : HasSocket w
     by : (k : SockType) → take_from k [] bytes ≡ nothing_taken
     by Stream = let end : min bytes 0 ≡ 0 = omega arith in λ i. record { bytes = take (end i) []; attached = if nat_lt 0 (end i) then [] else []; trunc = false; rest = cut (end i) [] }
     by Seqpacket = refl
+    by Dgram = refl
 
   -- And the end is the answer.
   answered_end : answer w p (step.Recv n bytes fds) ≡ reply.End

@@ -9,3 +9,4 @@ pub mod Sends
 pub mod Connections
 pub mod SocketEnds
 pub mod SendSync
+pub mod Targets

@@ -13,7 +13,7 @@ use Rattle.af_base.specs.Changes.{push_message}
 use Rattle.af_base.specs.Counts.{total}
 use Rattle.af_base.specs.Pass.{Machine, SamePass}
 use Rattle.af_base.specs.Places.{InTable, table_at}
-use Rattle.af_base.specs.Refusals.{RefusalRow, first_fit, on_parts, on_peer, peer_of, refusal}
+use Rattle.af_base.specs.Refusals.{RefusalRow, first_fit, ino_on, on_parts, peer_of, refusal}
 use Rattle.af_base.specs.Steps.{effect}
 use Rattle.af_base.specs.Unheld.{Settles}
 use Rattle.af_base.specs.Whole.{IsMessageWithin}
@@ -22,8 +22,8 @@ use Rattle.af_base.proofs.SoundSteps.{attached-most, attached-tabled, goes-on, n
 use Rattle.af_steps.specs.Found.{HasSocket}
 use Rattle.af_steps.specs.declared.messages.Envelope.{Envelope}
 use Rattle.af_steps.specs.Outcome.{Does, Refuses, error_of}
-use Rattle.af_steps.specs.MessageRoom.{message_in, room_row}
-use Rattle.af_steps.proofs.LookupRows.{after-socket, looks}
+use Rattle.af_steps.specs.MessageRoom.{goal_row, message_in, room_row}
+use Rattle.af_steps.proofs.LookupRows.{after-socket, ino-is, is_process, looks, socket-is}
 
 module _ {w : World} {p n f : ℕ} {q : Process} {x : Socket} (has : HasSocket w p q n f x) (bytes attach : List ℕ) where
   -- The part of its bytes and numbers, by what was found.
@@ -34,26 +34,36 @@ module _ {w : World} {p n f : ℕ} {q : Process} {x : Socket} (has : HasSocket w
   abbrev room : RefusalRow
   room = room_row w q (peer_of x.state) (length attach)
 
+  -- Those of whom it sends to.
+  abbrev goal : RefusalRow
+  goal = goal_row w f x
+
   -- All of them.
-  row : refusal w p (step.Send n bytes attach) ≡ first_fit (parts ++ (on_peer x ++ room))
-  row = after-socket has (λ r look s. on_parts look bytes attach ++ (on_peer s ++ room_row w r (peer_of s.state) (length attach)))
+  row : refusal w p (step.Send n bytes attach) ≡ first_fit (parts ++ (goal ++ room))
+  row =
+      after-socket has (λ r look s. on_parts look bytes attach
+      ++ (goal_row w (ino_on w p n) s ++ room_row w r (peer_of s.state) (length attach)))
+      ∙ ap (λ g. first_fit (parts ++ (goal_row w g x ++ room))) (ino-is has.number)
 
   -- Its bytes or its numbers are refused.
   pub refused-parts : (e : Errno) → first_fit parts ≡ Some e → refusal w p (step.Send n bytes attach) ≡ Some e
-  refused-parts e fits = row ∙ goes-on parts (on_peer x ++ room) e fits
+  refused-parts e fits = row ∙ goes-on parts (goal ++ room) e fits
 
   module _ (given : first_fit parts ≡ None) where
     -- The parts that are left then.
-    after-parts : refusal w p (step.Send n bytes attach) ≡ first_fit (on_peer x ++ room)
-    after-parts = row ∙ passes-on parts (on_peer x ++ room) given
+    after-parts : refusal w p (step.Send n bytes attach) ≡ first_fit (goal ++ room)
+    after-parts = row ∙ passes-on parts (goal ++ room) given
 
     -- It can talk to nobody.
-    pub refused-peer : (e : Errno) → first_fit (on_peer x) ≡ Some e → refusal w p (step.Send n bytes attach) ≡ Some e
-    refused-peer e fits = after-parts ∙ goes-on (on_peer x) room e fits
+    pub refused-peer : (e : Errno) → first_fit goal ≡ Some e
+        → refusal w p (step.Send n bytes attach) ≡ Some e
+    refused-peer e fits = after-parts ∙ goes-on goal room e fits
 
     -- It can talk to this socket: what is left decides.
-    pub after-peer : first_fit (on_peer x) ≡ None → (g : ℕ) → g ≡ peer_of x.state → refusal w p (step.Send n bytes attach) ≡ first_fit (room_row w q g (length attach))
-    after-peer alive g to = after-parts ∙ passes-on (on_peer x) room alive ∙ ap (λ h. first_fit (room_row w q h (length attach))) (sym to)
+    pub after-peer : first_fit goal ≡ None → (g : ℕ) → g ≡ peer_of x.state
+        → refusal w p (step.Send n bytes attach) ≡ first_fit (room_row w q g (length attach))
+    after-peer alive g to = after-parts ∙ passes-on goal room alive
+        ∙ ap (λ h. first_fit (room_row w q h (length attach))) (sym to)
 
   -- The message that is sent.
   abbrev pub sent : Message
@@ -63,6 +73,19 @@ module _ {w : World} {p n f : ℕ} {q : Process} {x : Socket} (has : HasSocket w
     -- It carries the files of the descriptors.
     carries : m.attached ≡ filter_map (table_at w p) attach
     carries = ap (λ (x : Message). x.attached) is ∙ (λ i. filter_map (sym (looks has.number.process) i) attach)
+
+    -- It comes into the queue of the one that the socket sends to.
+    pub sent-leads : (g : ℕ) → g ≡ peer_of x.state → effect w p (step.Send n bytes attach)
+        ≡ push_message w g m
+    sent-leads g to =
+        let process = has.number.process in
+        (λ i. push_message w (peer_of (socket-is has i).state) (record {
+          bytes = bytes;
+          attached =
+              filter_map (looks process i) attach;
+          user = (is_process process i).user;
+        }))
+        ∙ (λ i. push_message w (sym to i) (sym is i))
 
     -- They are in the table of the sender.
     pub sent-tabled : (g : ℕ) → Contains m.attached g → InTable w g

@@ -1,18 +1,17 @@
 -- A receive or a peek where a message waits: the store meets its requirements, and its result.
-use Rattle.std.proofs.Common.{◌≡◌, ◌<◌, ◌≤◌, ℕ, List, length, ap, sym, ◌∙◌, subst}
+use Rattle.std.proofs.Common.{◌≡◌, ◌<◌, ◌≤◌, ℕ, List, length, ap, sym, ◌∙◌, subst, true}
 use Rattle.std.specs.Prelude.{IfSome, IsTrue, None, Option, Some, if◌then◌else◌, is_none, min, nat_lt, unwrap_or}
 use Rattle.std.specs.FinMap as map
 use Rattle.std.specs.List.{zip}
 use Rattle.std.specs.Option.{option_and_then}
 use Rattle.af_base.specs.declared.events.Reply.TheVariants as reply
-use Rattle.af_base.specs.declared.events.SockType.TheVariants.{Seqpacket}
 use Rattle.af_base.specs.declared.events.Step.TheVariants as step
 use Rattle.af_base.specs.Changes.{install_all, with_queue}
 use Rattle.af_base.specs.Places.{InTable}
 use Rattle.af_base.specs.Refusals.{no_socket, process_at, socket_at, socket_on}
 use Rattle.af_base.specs.Steps.{effect, got_at, received, taken_on}
 use Rattle.af_base.specs.Table.{lowest_free}
-use Rattle.af_base.specs.Take.{take_from}
+use Rattle.af_base.specs.Take.{keeps_borders, take_from}
 use Rattle.af_base.specs.World.{Socket, World}
 use Rattle.af_collect.specs.Keeping.{NotBegunGarbage}
 use Rattle.af_collect.specs.Receiving.{CanReceive, taken_at}
@@ -38,11 +37,17 @@ can-receive {p} {n} {bytes} {fds} {f} {ns} store new has spared world pass room 
       row = numbers-below (process_at w p) ns count (room_at new p) has.numbers room;
     }
 
--- Where the descriptor is a socket of packets, so is the socket that it refers to.
-pub packet-in : {w v : World} {p n bytes fds f : ℕ} {ns : List ℕ} → HasMessage w p n bytes fds f ns → v ≡ w → (socket_on w p n).kind ≡ Seqpacket → IfSome (socket_at v f) (λ s. s.kind ≡ Seqpacket)
+-- Where the descriptor is a socket that keeps borders, so is the socket that it refers to.
+pub packet-in : {w v : World} {p n bytes fds f : ℕ} {ns : List ℕ}
+    → HasMessage w p n bytes fds f ns → v ≡ w → keeps_borders (socket_on w p n).kind ≡ true
+    → IfSome (socket_at v f) (λ s. keeps_borders s.kind ≡ true)
 packet-in {w} {f = f} has same is =
-    subst (λ u. IfSome (socket_at u f) (λ s. s.kind ≡ Seqpacket)) (sym same) (by (socket_at w f) (sym (ap (λ o. (unwrap_or (option_and_then (socket_at w) o) no_socket).kind) has.tabled) ∙ is)) where
-      by : (o : Option Socket) → (unwrap_or o no_socket).kind ≡ Seqpacket → IfSome o (λ s. s.kind ≡ Seqpacket)
+    subst (λ u. IfSome (socket_at u f) (λ s. keeps_borders s.kind
+    ≡ true)) (sym same) (by (socket_at w f)
+    (sym (ap (λ o. keeps_borders (unwrap_or (option_and_then (socket_at w) o) no_socket).kind)
+    has.tabled) ∙ is)) where
+      by : (o : Option Socket) → keeps_borders (unwrap_or o no_socket).kind ≡ true
+          → IfSome o (λ s. keeps_borders s.kind ≡ true)
       by None is = tt
       by (Some x) is = is
 

@@ -4,15 +4,20 @@ use Rattle.std.specs.List.{Contains}
 use Rattle.af_base.specs.declared.limits.TheConstants.{MAX_INFLIGHT, MAX_MESSAGES}
 use Rattle.af_base.specs.Counts.{charged, total}
 use Rattle.af_base.specs.Places.{InTable, queue_at}
-use Rattle.af_base.specs.Refusals.{RefusalRow, is_deaf, on_charge, on_input, on_room, socket_at}
+use Rattle.af_base.specs.Refusals.{RefusalRow, is_deaf, on_charge, on_input, on_peer, on_room, on_target, peer_of, socket_at}
 use Rattle.af_base.specs.Whole.{IsMessageWithin}
-use Rattle.af_base.specs.World.{Message, Process, World}
+use Rattle.af_base.specs.World.{Message, Process, Socket, World}
 use Rattle.af_collect.specs.Limits.{IsOfProcess}
 use Rattle.af_steps.specs.declared.messages.Envelope.{Envelope}
 
 -- The message of these bytes in the envelope.
 abbrev pub message_in : Envelope → List ℕ → Message
 message_in e bytes = record { bytes = bytes; attached = e.attached.items; user = e.user }
+
+-- This socket f must have somebody to send to, who takes from it: the middle parts of the row of a
+-- send.
+abbrev pub goal_row : World → ℕ → Socket → RefusalRow
+goal_row w f s = on_peer s ++ on_target f (socket_at w (peer_of s.state))
 
 -- The input of socket s must be open, and its queue have room: the last parts of the row of a send.
 abbrev pub target_row : World → ℕ → RefusalRow

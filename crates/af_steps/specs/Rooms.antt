@@ -1,14 +1,14 @@
 -- Where a step needs no memory from the allocator. Definitions that name no manual page are of this
 -- project's profile (docs/PROFILE.md).
-use Rattle.std.specs.Prelude.{◌≡◌, ◌≤◌, ◌<◌, ◌-◌, ℕ, None, length}
+use Rattle.std.specs.Prelude.{◌≡◌, ◌≤◌, ◌<◌, ◌-◌, ℕ, None, length, true}
 use Rattle.af_base.specs.declared.events.Event.{Event}
 use Rattle.af_base.specs.declared.events.Event.TheVariants as event
 use Rattle.af_base.specs.declared.events.Reply.{Reply}
-use Rattle.af_base.specs.declared.events.SockType.TheVariants.{Seqpacket}
 use Rattle.af_base.specs.declared.events.Step.{Step}
 use Rattle.af_base.specs.declared.events.Step.TheVariants as step
 use Rattle.af_base.specs.Refusals.{process_at, refusal, socket_on}
 use Rattle.af_base.specs.Steps.{answer, free_at, got_at}
+use Rattle.af_base.specs.Take.{keeps_borders}
 use Rattle.af_base.specs.World.{World}
 use Rattle.af_table.specs.Rooms.{IsOpenFrom}
 
@@ -21,7 +21,7 @@ HasRoom w p (step.Accept n) = IsOpenFrom (process_at w p).table (free_at w p 0)
 HasRoom w p (step.Recv n max_bytes max_fds) =
     let q = process_at w p in
     let got = got_at w p n max_bytes max_fds in
-    ((socket_on w p n).kind ≡ Seqpacket) × (length got ≤ 4)
+    (keeps_borders (socket_on w p n).kind ≡ true) × (length got ≤ 4)
     × (0 < length got → IsOpenFrom q.table (q.limit - 1))
 HasRoom w p s = ⊥
 

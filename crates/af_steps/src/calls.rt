@@ -319,6 +319,21 @@ impl Call for Shutdown {
     }
 }
 
+/// Calls [`Engine::unconnect`].
+#[derive(Clone, Copy)]
+pub struct Unconnect(pub Pid, pub Fd);
+
+impl Call for Unconnect {
+    type Answer = ();
+
+    ghost event = { λ c. event.Proc c.0 (step.Unconnect c.1) };
+
+    #[inline(always)]
+    fn call(self, engine: &mut Engine) -> Result<(), Errno> {
+        engine.unconnect(self.0, self.1)
+    }
+}
+
 /// Calls [`Engine::connect`].
 #[derive(Clone, Copy)]
 pub struct Connect<'a>(pub Pid, pub Fd, pub &'a [u8]);

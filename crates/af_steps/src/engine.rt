@@ -150,6 +150,7 @@ impl Engine {
                 max_fds,
             } => self.reply_to(calls::Peek(pid, *on, *max_bytes, *max_fds)),
             events::Step::Limit(nofile) => self.reply_to(calls::Limit(pid, *nofile)),
+            events::Step::Unconnect(on) => self.reply_to(calls::Unconnect(pid, *on)),
             events::Step::Shutdown { on, how } => { self.reply_to(calls::Shutdown(pid, *on, *how)) }
         }
     }

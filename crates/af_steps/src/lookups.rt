@@ -88,8 +88,8 @@ pub fn socket_on(store: &Store, pid: Pid, on: Fd) -> Result<(&Process, FileRef, 
     Ok((process, file, socket))
 }
 
-/// Reserves room to install at `fd`, which is below the process's limit, unless `has_room` says that
-/// there is room. No process can see a change, also on an error.
+/// Reserves room to install at `fd`, which is below the process's limit, unless `has_room` says
+/// that there is room. No process can see a change, also on an error.
 #[inline(always)]
 pub fn make_room_at(store: &mut Store, pid: Pid, fd: Fd, has_room: bool) -> Result<(), AllocError>
     requires said { has_room ≡ nat_lt fd (room_at store.old pid) }

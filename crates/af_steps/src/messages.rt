@@ -1,24 +1,28 @@
 //! Steps that send and receive.
 ghost use Rattle.std.specs.Prelude.{◌≡◌, ◌≤◌, ◌<◌, [], Some, None, IfOk, IfErr, OnOk, length};
-ghost use Rattle.std.specs.Prelude.{◌-◌, IfNone, IfSome, IsOk, filter_map, nat_le, nat_lt, true};
+ghost use Rattle.std.specs.Prelude.{◌-◌, IfNone, IfSome, IsOk, false, filter_map, nat_le, nat_lt};
+ghost use Rattle.std.specs.Prelude.{not};
+ghost use Rattle.std.specs.Prelude.{◌&&◌, true, ℕ};
 ghost use Rattle.std.specs.FinMap as map;
 ghost use Rattle.af_base.specs.Changes.{push_message};
 ghost use Rattle.af_base.specs.Pass.{SamePass};
-ghost use Rattle.af_base.specs.Refusals.{first_fit, on_parts, on_peer, on_receive, peer_of};
-ghost use Rattle.af_base.specs.Refusals.{process_at, refusal};
+ghost use Rattle.af_base.specs.Refusals.{first_fit, is_connected, on_parts, on_receive, peer_of};
+ghost use Rattle.af_base.specs.Refusals.{is_datagram, process_at, refusal, socket_at};
 ghost use Rattle.af_base.specs.Steps.{effect};
 ghost use Rattle.af_base.specs.Unheld.{Settles};
+ghost use Rattle.af_base.specs.Whole.{IsWhole};
 ghost use Rattle.af_collect.specs.Receiving.{CanReceive};
 ghost use Rattle.af_collect.specs.StoreView.{room_at};
-ghost use Rattle.af_steps.specs.Found.{HasEnd, HasMessage};
+ghost use Rattle.af_steps.specs.Found.{HasEnd, HasMessage, IsSocketOf};
 ghost use Rattle.af_steps.specs.Outcome.{Does, Refuses, got_reply, step_error};
-ghost use Rattle.af_steps.specs.MessageRoom.{HasRoomForMessage, message_in, room_row};
+ghost use Rattle.af_steps.specs.MessageRoom.{HasRoomForMessage, goal_row, message_in, room_row};
 ghost use Rattle.af_steps.specs.Rooms.{CannotFail};
 ghost use Rattle.af_table.specs.Rooms.{IsOpenFrom};
 
 use crate::engine::Engine;
 use crate::lookups::socket_on;
 use crate::ready::check_target;
+use crate::sockets::check_takes;
 use af_base::errno::Errno;
 use af_base::events::{Reply, State, Step};
 use af_base::ids::{Fd, FileRef, Pid, Uid};
@@ -89,10 +93,12 @@ struct ReceivingSocket {
 impl Engine {
     /// Sends bytes from a process, with the files of the descriptors `attach` (sendmsg(2)): the
     /// step `Send`, for a caller that keeps the bytes and descriptors. They are copied once.
-    /// Returns how many bytes were sent. Refused, in this order: ESRCH, EBADF, ENOTSOCK,
-    /// EINVAL (no byte, or over 253 descriptors), EMSGSIZE (over 65,536 bytes), EBADF of an
-    /// attached descriptor, ENOTCONN, EPIPE (the peer is gone, or the output is closed),
-    /// ETOOMANYREFS, ENOBUFS, EPIPE (the peer's input is closed), EAGAIN, ENOMEM.
+    /// Returns how many bytes were sent. Refused, in this order: ESRCH, EBADF, ENOTSOCK, EINVAL (no
+    /// byte, or over 253 descriptors), EMSGSIZE (over 65,536 bytes), EBADF of an attached
+    /// descriptor, ENOTCONN, EPIPE (the peer is gone, or the output is closed), ENOTCONN (a
+    /// datagram socket without a target), ECONNREFUSED (its target was freed), EPERM (that sends to
+    /// another), ETOOMANYREFS, ENOBUFS, EPIPE (the input of the peer or target is closed), EAGAIN,
+    /// ENOMEM.
     pub fn send(&mut self, pid: Pid, on: Fd, bytes: &[u8], attach: &[Fd]) -> Result<u32, Errno>
         ensures done { IfOk result (λ count.
             Does self.old pid (Step.Send on bytes.now attach.now) (Reply.Sent count) self.new) }
@@ -138,7 +144,7 @@ impl Engine {
         let (process, file, socket) = socket_on(&self.store, pid, on)?;
         let mut attached = SmallVec::new(self.alloc);
         check_parts(process, bytes, attach, &mut attached)?;
-        let peer = peer_of(&socket)?;
+        let peer = peer_of(&self.store, &file, &socket)?;
         let user = check_room(&self.store, process, &peer, attach.len())?;
         // The list is short where memory for it was refused.
         if attached.len() < attach.len() {
@@ -285,11 +291,14 @@ fn reserve_files(files: &mut Attached, count: usize) -> Result<(), AllocError>
     Ok(())
 }
 
-/// Returns the peer that a socket sends to, or why it cannot.
-fn peer_of(socket: &Socket) -> Result<FileRef, Errno>
-    ensures ok { OnOk result (first_fit (on_peer socket.now) ≡ None) }
+/// Returns the peer or target that a socket sends to, or why it cannot.
+fn peer_of(store: &Store, file: &FileRef, socket: &Socket) -> Result<FileRef, Errno>
+    requires { IsSocketOf store.now.world file.now socket.now }
+    ensures ok { OnOk result
+        (first_fit (goal_row store.now.world file.now socket.now) ≡ None) }
     ensures peer { IfOk result (λ peer. peer ≡ peer_of socket.now.state) }
-    ensures err { IfErr result (λ e. first_fit (on_peer socket.now) ≡ Some e) }
+    ensures err { IfErr result (λ e.
+        first_fit (goal_row store.now.world file.now socket.now) ≡ Some e) }
 {
     if let Some(peer) = socket.peer() {
         if socket.ends().no_output {
@@ -297,10 +306,40 @@ fn peer_of(socket: &Socket) -> Result<FileRef, Errno>
         }
         return Ok(peer);
     }
-    match socket.state() {
-        State::HungUp => Err(Errno::EPIPE),
-        _ => Err(Errno::ENOTCONN),
+    // A copy, so that few sends have to keep it in memory.
+    let file = file.duplicate();
+    target_of(store, &file)
+}
+
+/// Returns the target that a socket without a peer sends to, or why it cannot. Stands apart, since
+/// most sends go to a peer.
+#[inline(never)]
+pub(crate) fn target_of(store: &Store, file: &FileRef) -> Result<FileRef, Errno>
+    requires whole { IsWhole store.now.world }
+    requires alone { IfSome (socket_at store.now.world file.now) (λ s.
+        (peer : ℕ) → ¬ (s.state ≡ State.Connected peer)) }
+    ensures ok { OnOk result (IfSome (socket_at store.now.world file.now) (λ s.
+        first_fit (goal_row store.now.world file.now s) ≡ None)) }
+    ensures target { IfOk result (λ target. IfSome (socket_at store.now.world file.now) (λ s.
+        target ≡ peer_of s.state)) }
+    ensures err { IfErr result (λ e. IfSome (socket_at store.now.world file.now) (λ s.
+        first_fit (goal_row store.now.world file.now s) ≡ Some e)) }
+{
+    let Some(socket) = store.holdings().socket(file) else {
+        return Err(Errno::ENOTCONN);
+    };
+    if let State::HungUp = socket.state() {
+        return Err(Errno::EPIPE);
     }
+    if !socket.is_datagram() {
+        return Err(Errno::ENOTCONN);
+    }
+    if socket.ends().no_output {
+        return Err(Errno::EPIPE);
+    }
+    let target = socket.target().ok_or(Errno::ENOTCONN)?;
+    check_takes(store, file, &target)?;
+    Ok(target)
 }
 
 /// Returns the user of a process, who is charged for `count` descriptors; or why they may not be in
@@ -436,12 +475,37 @@ pub(crate) fn check_receive(socket: &Socket, max_bytes: u32) -> Result<(), Errno
         return Err(Errno::EINVAL);
     }
     match socket.state() {
-        State::Idle | State::Listening(_) => Err(Errno::ENOTCONN),
-        State::Connected(_) if socket.queue().len() == 0 && !socket.ends().no_input => {
+        State::Connected(_) if socket.queue().len() == 0 && !is_at_end(socket) => {
             Err(Errno::EAGAIN)
         }
         State::Connected(_) | State::HungUp => Ok(()),
+        State::Idle | State::Listening(_) | State::Sends(_) => check_datagrams(socket),
     }
+}
+
+/// Returns whether the input of the socket is closed, and an empty receive tells it: a datagram
+/// socket has no end.
+#[inline(always)]
+fn is_at_end(socket: &Socket) -> bool
+    ensures { result ≡ (socket.now.ends.no_input && not (is_datagram socket.now.kind)) }
+{
+    socket.ends().no_input && !socket.is_datagram()
+}
+
+/// Returns whether a datagram waits at a socket without a peer, or why none is received.
+#[inline(always)]
+fn check_datagrams(socket: &Socket) -> Result<(), Errno>
+    requires { is_connected socket.now.state ≡ false }
+    ensures ok { OnOk result (first_fit (on_receive socket.now 1) ≡ None) }
+    ensures err { IfErr result (λ e. first_fit (on_receive socket.now 1) ≡ Some e) }
+{
+    if !socket.is_datagram() {
+        return Err(Errno::ENOTCONN);
+    }
+    if socket.queue().len() == 0 {
+        return Err(Errno::EAGAIN);
+    }
+    Ok(())
 }
 
 /// Returns the answer to a receive or a peek, whose first files were installed at the descriptors

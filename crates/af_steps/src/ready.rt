@@ -1,16 +1,19 @@
 //! The readiness of files (poll(2)).
-ghost use Rattle.std.specs.Prelude.{◌≡◌, ◌++◌, None, OnOk, Some, IfErr, IfOk, false, true};
+ghost use Rattle.std.specs.Prelude.{◌≡◌, ◌++◌, ◌&&◌, ℕ, None, OnOk, Some, IfErr, IfOk, false, not};
+ghost use Rattle.std.specs.Prelude.{IfSome, true};
 ghost use Rattle.std.specs.FinMap as map;
-ghost use Rattle.af_base.specs.Places.{queue_at, table_at};
-ghost use Rattle.af_base.specs.Ready.{is_cut_off, reads, ready, writes};
-ghost use Rattle.af_base.specs.Refusals.{first_fit, ino_on, is_deaf, on_number, on_process};
-ghost use Rattle.af_base.specs.Refusals.{peer_of};
+ghost use Rattle.af_base.specs.Places.{table_at};
+ghost use Rattle.af_base.specs.Ready.{has_room, is_cut_off, reaches, reads, ready, writes};
+ghost use Rattle.af_base.specs.Refusals.{first_fit, ino_on, on_number, on_process, peer_of};
+ghost use Rattle.af_base.specs.Refusals.{socket_at};
+ghost use Rattle.af_base.specs.Whole.{IsWhole, fits_type};
 ghost use Rattle.af_base.specs.World.{IsLive};
+ghost use Rattle.af_steps.specs.Found.{IsSocketOf};
 ghost use Rattle.af_steps.specs.MessageRoom.{target_row};
 
 use crate::engine::Engine;
 use crate::lookups::file_on;
-use crate::messages::check_receive;
+use crate::messages::{check_receive, target_of};
 use crate::sockets::check_accept;
 use af_base::errno::Errno;
 use af_base::events::State;
@@ -49,7 +52,7 @@ impl Engine {
         };
         Ready {
             readable: is_readable(&socket),
-            writable: is_writable(&self.store, &socket),
+            writable: is_writable(&self.store, file, &socket),
             hung_up: is_cut_off(&socket),
         }
     }
@@ -57,20 +60,43 @@ impl Engine {
 
 /// Returns whether a receive of a byte from the socket, or an accept at it, is not refused.
 fn is_readable(socket: &Socket) -> bool
+    requires { fits_type socket.now.kind socket.now.state ≡ true }
     ensures { result ≡ reads socket.now }
 {
     check_receive(socket, 1).is_ok() || check_accept(socket).is_ok()
 }
 
-/// Returns whether the socket's output is open, and it has a peer that takes a message.
-fn is_writable(store: &Store, socket: &Socket) -> bool
-    ensures { result ≡ writes socket.now (is_deaf store.now.world (peer_of socket.now.state))
-        (queue_at store.now.world (peer_of socket.now.state)) }
+/// Returns whether the socket's output is open, and it has a peer that takes a message; of a
+/// datagram socket, whether a send does not wait.
+fn is_writable(store: &Store, file: &FileRef, socket: &Socket) -> bool
+    requires { IsSocketOf store.now.world file.now socket.now }
+    ensures { result ≡ writes file.now socket.now
+        (socket_at store.now.world (peer_of socket.now.state)) }
 {
     match socket.peer() {
         Some(peer) => !socket.ends().no_output && check_target(store, &peer).is_ok(),
-        None => false,
+        None => socket.is_datagram() && !is_target_full(store, &file.duplicate()),
     }
+}
+
+/// Returns whether a send from a datagram socket waits for room at its target. Stands apart, since
+/// most sockets have a peer.
+#[inline(never)]
+fn is_target_full(store: &Store, file: &FileRef) -> bool
+    requires whole { IsWhole store.now.world }
+    requires alone { IfSome (socket_at store.now.world file.now) (λ s.
+        (peer : ℕ) → ¬ (s.state ≡ State.Connected peer)) }
+    ensures { IfSome (socket_at store.now.world file.now) (λ s. result ≡ (
+        reaches file.now s (socket_at store.now.world (peer_of s.state))
+        && not (has_room (socket_at store.now.world (peer_of s.state))))) }
+{
+    let Ok(target) = target_of(store, file) else {
+        return false;
+    };
+    let Some(there) = store.holdings().socket(&target) else {
+        return false;
+    };
+    !there.ends().no_input && there.queue().len() >= MAX_MESSAGES
 }
 
 /// Returns whether a socket takes one message more, or why not; any other file does.

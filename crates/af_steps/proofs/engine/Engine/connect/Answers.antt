@@ -1,7 +1,10 @@
-use Rattle.std.proofs.Common.{refl, sym, ap, ◌∙◌}
+use Rattle.std.proofs.Common.{◌≡◌, refl, sym, ap, ◌∙◌, subst}
+use Rattle.std.specs.Prelude.{IfSome, None}
 use Rattle.af_base.specs.declared.events.Reply.TheVariants as reply
 use Rattle.af_base.specs.declared.events.Step.TheVariants as step
+use Rattle.af_base.specs.Refusals.{refusal}
 use Rattle.af_collect.specs.StoreView.{StoreView}
+use Rattle.af_steps.specs.Found.{HasListener}
 use Rattle.af_steps.proofs.Outcomes.{does, turned-down}
 use Rattle.af_steps.proofs.engine.Engine.connect.Goals as goal
 
@@ -11,13 +14,19 @@ returns-in_err-client-clause-refused c =
 
 pub make_embryo-requires : goal.make_embryo-requires
 make_embryo-requires c =
-    let found = c.in_ok-client.ensures.found in record { full = found.full; client = found.client; idle = found.idle; listener = found.listener; room = found.room }
+    let w = c.self.inside.store.world in
+    let has : HasListener w c.args.pid c.args.on c.args.name.now c.in-Some.client c.in-Some.listener c.in-Some.kind =
+    subst (λ o. IfSome o (λ f. HasListener w c.args.pid c.args.on c.args.name.now f.0 f.1 f.2)) c.in-Some.is c.in_ok-client.ensures.found in
+    record { full = has.full; client = has.client; kind = has.type; connections = has.connections; idle = has.idle; listener = has.listener; room = has.room }
 
 pub returns-clause-done : goal.returns-clause-done
 returns-clause-done c =
-    let found = c.in_ok-client.ensures in
+    let w = c.self.inside.store.world in
+    let has : HasListener w c.args.pid c.args.on c.args.name.now c.in-Some.client c.in-Some.listener c.in-Some.kind =
+    subst (λ o. IfSome o (λ f. HasListener w c.args.pid c.args.on c.args.name.now f.0 f.1 f.2)) c.in-Some.is c.in_ok-client.ensures.found in
+    let fits = subst (λ o. IfSome o (λ _. refusal w c.args.pid (step.Connect c.args.on c.args.name.now) ≡ None)) c.in-Some.is c.in_ok-client.ensures.fits in
     let placed = c.in_ok-make_embryo.ensures.ok in
-    let leads = found.found.leads ∙ sym (ap (λ (s : StoreView). s.world) placed) in
+    let leads = has.leads ∙ sym (ap (λ (s : StoreView). s.world) placed) in
     let pass = c.release.ensures.pass ∙ ap (λ (s : StoreView). s.pass) placed in
     let since = c.release.ensures.since ∙ ap (λ (s : StoreView). s.since) placed in
-    does c.self.view_is c.args.pid (step.Connect c.args.on c.args.name.now) c.release.new.self reply.Ok c.make_embryo.new.self.world found.fits refl leads c.release.ensures.settles pass since
+    does c.self.view_is c.args.pid (step.Connect c.args.on c.args.name.now) c.release.new.self reply.Ok c.make_embryo.new.self.world fits refl leads c.release.ensures.settles pass since

@@ -1,9 +1,13 @@
-use Rattle.std.proofs.Common.{refl, sym, ap, ◌∙◌}
+use Rattle.std.proofs.Common.{◌≡◌, refl, sym, ap, ◌∙◌, subst}
+use Rattle.std.specs.Prelude.{IfSome}
 use Rattle.af_base.specs.declared.events.Reply.TheVariants as reply
+use Rattle.af_base.specs.declared.events.State.TheVariants as state
 use Rattle.af_base.specs.declared.events.Step.TheVariants as step
 use Rattle.af_base.specs.Changes.{listening, with_socket}
 use Rattle.af_base.specs.Refusals.{on_listen, socket_on}
+use Rattle.af_base.specs.World.{Socket}
 use Rattle.af_collect.specs.StoreView.{StoreView}
+use Rattle.af_steps.proofs.Connections.{idle-listener}
 use Rattle.af_steps.proofs.LookupRows.{after-socket, ino-is, no-socket}
 use Rattle.af_steps.proofs.Outcomes.{does, turned-down}
 use Rattle.af_steps.proofs.engine.Engine.listen.Goals as goal
@@ -31,3 +35,11 @@ returns-clause-done c =
     let pass = c.release.ensures.pass ∙ ap (λ (s : StoreView). s.pass) placed in
     let since = c.release.ensures.since ∙ ap (λ (s : StoreView). s.since) placed in
     does c.self.view_is c.args.pid (step.Listen c.args.on backlog) c.release.new.self reply.Ok c.listen.new.self.world fits refl leads c.release.ensures.settles pass since
+
+pub listen-requires-clause-idle : goal.listen-requires-clause-idle
+listen-requires-clause-idle c =
+    let found = c.in_ok-file.ensures.found in
+    subst (λ o. IfSome o (λ (s : Socket). s.state ≡ state.Idle)) (sym found.found)
+    (idle-listener c.in_ok-file.socket c.args.backlog
+    (c.self.invariant.0.whole.types c.in_ok-file.file c.in_ok-file.socket found.found)
+    c.in_ok-check_listen.ensures.ok)

@@ -1,9 +1,29 @@
-use Rattle.std.proofs.Common.{◌≡◌, ◌∙◌, subst, sym}
+use Rattle.std.proofs.Common.{◌≡◌, sym, ◌∙◌, subst}
+use Rattle.af_base.specs.declared.events.Event.TheVariants as event
 use Rattle.af_base.specs.declared.events.Step.TheVariants as step
-use Rattle.af_steps.specs.Outcome.{Answers}
+use Rattle.af_base.specs.Run.{Step}
+use Rattle.af_steps.specs.Rooms.{Succeeds}
 use Rattle.af_steps.proofs.engine.Engine.step_of.Goals as goal
+
+pub returns-in-Connect-clause-answers : goal.returns-in-Connect-clause-answers
+returns-in-Connect-clause-answers c =
+    let is = c.in-Connect.is
+    ∙ (λ i. step.Connect c.in-Connect.on (sym c.as_slice-in-Connect.ensures i)) in
+    let did = c.reply_to-in-Connect in
+    subst (λ s. Step c.args.self.now (event.Proc c.args.pid s) did.result did.new.self) (sym is)
+    did.ensures.does
+
+pub returns-in-Recv-clause-succeeds : goal.returns-in-Recv-clause-succeeds
+returns-in-Recv-clause-succeeds c =
+    let did = c.reply_to-in-Recv in
+    subst (λ s. Succeeds c.args.self.now.world c.args.pid s did.result) (sym c.in-Recv.is)
+    did.ensures.succeeds
 
 pub returns-in-Send-clause-answers : goal.returns-in-Send-clause-answers
 returns-in-Send-clause-answers c =
-    let read : c.args.step.now ≡ step.Send c.in-Send.on c.as_slice-in-Send.result.now c.as_slice-in-Send-2.result.now = c.in-Send.is ∙ sym (λ i. step.Send c.in-Send.on (c.as_slice-in-Send.ensures i) (c.as_slice-in-Send-2.ensures i)) in
-    subst (λ t. Answers c.args.self.now c.args.pid t c.reply_to-in-Send.result c.reply_to-in-Send.new.self) (sym read) c.reply_to-in-Send.ensures.does
+    let sent = c.in-Send in
+    let is = sent.is ∙ (λ i. step.Send sent.on (sym c.as_slice-in-Send.ensures i)
+    (sym c.as_slice-in-Send-2.ensures i)) in
+    let did = c.reply_to-in-Send in
+    subst (λ s. Step c.args.self.now (event.Proc c.args.pid s) did.result did.new.self) (sym is)
+    did.ensures.does
