@@ -10,7 +10,7 @@ use Rattle.af_base.specs.declared.events.Event.TheVariants as event
 use Rattle.af_base.specs.declared.events.Reply.{Reply}
 use Rattle.af_base.specs.declared.events.Reply.TheVariants as reply
 use Rattle.af_base.specs.declared.events.SockType.{SockType}
-use Rattle.af_base.specs.declared.events.SockType.TheVariants.{Seqpacket, Stream}
+use Rattle.af_base.specs.declared.events.SockType.TheVariants.{Dgram, Seqpacket, Stream}
 use Rattle.af_base.specs.declared.events.Step.{Step}
 use Rattle.af_base.specs.declared.events.Step.TheVariants as step
 use Rattle.af_base.specs.declared.limits.TheConstants.{MAX_BYTES, SCM_MAX_FD}
@@ -35,6 +35,8 @@ use Rattle.af_layer.specs.Room.{HasRoomFor, ReplyRoomView, most_bytes, most_fds}
 few_bytes : (kind : SockType) (q : List Message) (n : ℕ) → length (take_from kind q n).bytes ≤ n
 few_bytes Seqpacket [] n = omega arith
 few_bytes Seqpacket (m ∷ q) n = omega (arith, length-take n m.bytes)
+few_bytes Dgram [] n = omega arith
+few_bytes Dgram (m ∷ q) n = omega (arith, length-take n m.bytes)
 few_bytes Stream q n = by (find has_files q) where
   by : (o : Option Message) → length (up_to q n o).bytes ≤ n
   by None = omega (arith, length-take (min n (before q)) (joined q))
@@ -55,6 +57,8 @@ few_found (x ∷ q) k m e = elim (cases_Bool (has_files x)) [
 few_files : (kind : SockType) (q : List Message) (n : ℕ) → AreWithin q → length (take_from kind q n).attached ≤ SCM_MAX_FD
 few_files Seqpacket [] n k = omega arith
 few_files Seqpacket (m ∷ q) n k = (k m (Contains-first m q)).attached
+few_files Dgram [] n k = omega arith
+few_files Dgram (m ∷ q) n k = (k m (Contains-first m q)).attached
 few_files Stream q n k = by (find has_files q) refl where
   either : (b : Bool) (fs : List ℕ) → length fs ≤ SCM_MAX_FD → length (cond b fs []) ≤ SCM_MAX_FD
   either true fs few = few

@@ -31,6 +31,7 @@ event_of (asked.Listen pid on backlog) = event.Proc pid (step.Listen on backlog)
 event_of (asked.Accept pid on) = event.Proc pid (step.Accept on)
 event_of (asked.Limit pid nofile) = event.Proc pid (step.Limit nofile)
 event_of (asked.Shutdown how pid on) = event.Proc pid (step.Shutdown on how)
+event_of (asked.Unconnect pid on) = event.Proc pid (step.Unconnect on)
 
 -- Few words tell the event: it is of a process, and neither it nor its reply has bytes.
 abbrev pub is_short : Event → Bool

@@ -28,6 +28,7 @@ pub enum ShortEvent {
     Accept(Pid, Fd),
     Limit(Pid, u32),
     Shutdown(Shutdown, Pid, Fd),
+    Unconnect(Pid, Fd),
 }
 
 /// A reply to such an event, in 12 bytes.
@@ -93,6 +94,7 @@ impl ShortEvent {
             Step::Accept(on) => ShortEvent::Accept(pid, on),
             Step::Limit(nofile) => ShortEvent::Limit(pid, nofile),
             Step::Shutdown { on, how } => ShortEvent::Shutdown(how, pid, on),
+            Step::Unconnect(on) => ShortEvent::Unconnect(pid, on),
             other => return Err(other),
         })
     }
@@ -118,6 +120,7 @@ impl ShortEvent {
             ShortEvent::Accept(pid, on) => short_reply(engine.accept(pid, on)),
             ShortEvent::Limit(pid, nofile) => short_reply(engine.limit(pid, nofile)),
             ShortEvent::Shutdown(how, pid, on) => short_reply(engine.shutdown(pid, on, how)),
+            ShortEvent::Unconnect(pid, on) => short_reply(engine.unconnect(pid, on)),
         }
     }
 
@@ -143,6 +146,7 @@ impl ShortEvent {
             ShortEvent::Accept(pid, on) => Event::Proc(pid, Step::Accept(on)),
             ShortEvent::Limit(pid, nofile) => Event::Proc(pid, Step::Limit(nofile)),
             ShortEvent::Shutdown(how, pid, on) => Event::Proc(pid, Step::Shutdown { on, how }),
+            ShortEvent::Unconnect(pid, on) => Event::Proc(pid, Step::Unconnect(on)),
         }
     }
 }

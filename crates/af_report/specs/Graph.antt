@@ -68,12 +68,13 @@ node_text w is_garbage f x =
     ++ (kind_text x ++ (counts_text (refs w f) (inflight w f)
     ++ (name_line (socket_name x) ++ (codes "\"" ++ (colour is_garbage ++ codes "]\n")))))
 
--- An edge to the peer of a connected socket.
+-- An edge to the peer of a connected socket; a target has none.
 abbrev pub peer_text : ℕ → State → List ℕ
 peer_text f state.Idle = []
 peer_text f (state.Listening most) = []
 peer_text f (state.Connected peer) = edge_text f peer (codes " [style=dotted]\n")
 peer_text f state.HungUp = []
+peer_text f (state.Sends target) = []
 
 -- An edge to the peer of a file: a plain one has none.
 abbrev pub peer_edge : ℕ → File → List ℕ

@@ -8,7 +8,7 @@ use Rattle.af_base.specs.Counts.{inflight, refs}
 use Rattle.af_base.specs.Places.{backlog_of, queue_of}
 use Rattle.af_base.specs.World.{AsSocket, File, Plain, World}
 use Rattle.af_base.specs.declared.events.SockType.{SockType}
-use Rattle.af_base.specs.declared.events.SockType.TheVariants.{Seqpacket, Stream}
+use Rattle.af_base.specs.declared.events.SockType.TheVariants.{Dgram, Seqpacket, Stream}
 use Rattle.af_base.specs.declared.events.State.{State}
 use Rattle.af_base.specs.declared.events.State.TheVariants as state
 
@@ -34,20 +34,23 @@ joined_cells (cell ∷ next ∷ others) = cell ++ 32 ∷ joined_cells (next ∷ 
 abbrev pub type_word : SockType → List ℕ
 type_word Stream = codes "stream"
 type_word Seqpacket = codes "seqpacket"
+type_word Dgram = codes "dgram"
 
--- The word for the state of a socket.
+-- The word for the state of a socket; a datagram socket with a target is connected (connect(2)).
 abbrev pub state_word : State → List ℕ
 state_word state.Idle = codes "idle"
 state_word (state.Listening most) = codes "listening"
 state_word (state.Connected peer) = codes "connected"
 state_word state.HungUp = codes "hungup"
+state_word (state.Sends target) = codes "connected"
 
--- The live peer of a socket, or 0.
+-- The live peer of a socket, or the target of a datagram socket, live or freed; or 0.
 abbrev pub peer_number : State → ℕ
 peer_number state.Idle = 0
 peer_number (state.Listening most) = 0
 peer_number (state.Connected peer) = peer
 peer_number state.HungUp = 0
+peer_number (state.Sends target) = target
 
 -- The kind of a file.
 abbrev pub kind_cell : File → List ℕ
@@ -59,7 +62,7 @@ abbrev pub state_cell : File → List ℕ
 state_cell Plain = codes "-"
 state_cell (AsSocket s) = state_word s.state
 
--- The number of a file's live peer, or 0.
+-- The number of a file's live peer or target, or 0.
 abbrev pub peer_cell : File → ℕ
 peer_cell Plain = 0
 peer_cell (AsSocket s) = peer_number s.state

@@ -46,27 +46,28 @@ pub fn type_word(kind: SockType) -> &'static str
     match kind {
         SockType::Stream => "stream",
         SockType::Seqpacket => "seqpacket",
+        SockType::Dgram => "dgram",
     }
 }
 
-/// Returns the word for the state of a socket.
+/// Returns the word for the state of a socket. A datagram socket with a target is connected.
 pub fn state_word(state: &State) -> &'static str
     ensures { result.now ≡ state_word state.now }
 {
     match state {
         State::Idle => "idle",
         State::Listening(_) => "listening",
-        State::Connected(_) => "connected",
+        State::Connected(_) | State::Sends(_) => "connected",
         State::HungUp => "hungup",
     }
 }
 
-/// Returns the number of a socket's live peer, or 0.
+/// Returns the number of a socket's live peer, or of a datagram socket's target, or 0.
 fn peer_number(state: &State) -> u64
     ensures { result ≡ peer_number state.now }
 {
     match state {
-        State::Connected(peer) => peer.0,
+        State::Connected(peer) | State::Sends(peer) => peer.0,
         State::Idle | State::Listening(_) | State::HungUp => 0,
     }
 }

@@ -47,13 +47,13 @@ fn push_colour(text: &mut String, is_garbage: bool) -> Result<(), AllocError>
     text.push_str(", style=filled, fillcolor=pink")
 }
 
-/// Appends an edge to the peer of a connected socket.
+/// Appends an edge to the peer of a connected socket; a target has none.
 fn push_state(text: &mut String, ino: Ino, state: &State) -> Result<(), AllocError>
     ensures { OnOk result (AppendsText text.old text.new (peer_text ino state.now)) }
 {
     match state {
         State::Connected(peer) => writeln!(text, "f{ino} -> f{peer} [style=dotted]"),
-        State::Idle | State::Listening(_) | State::HungUp => Ok(()),
+        State::Idle | State::Listening(_) | State::HungUp | State::Sends(_) => Ok(()),
     }
 }
 

@@ -40,3 +40,9 @@ returns-in-Limit c = short_step _ _ _ _ (step.Limit c.in-Limit.nofile) (ap event
 
 pub returns-in-Shutdown : goal.returns-in-Shutdown
 returns-in-Shutdown c = short_step _ _ _ _ (step.Shutdown c.in-Shutdown.on c.in-Shutdown.how) (ap event_of c.in-Shutdown.is) c.shutdown.result (λ _. answered.Ok) _ c.shutdown.ensures.done c.shutdown.ensures.refused c.short_reply-in-Shutdown.ensures.ok c.short_reply-in-Shutdown.ensures.err
+
+pub returns-in-Unconnect : goal.returns-in-Unconnect
+returns-in-Unconnect c =
+    short_step _ _ _ _ (step.Unconnect c.in-Unconnect.on) (ap event_of c.in-Unconnect.is)
+    c.unconnect.result (λ _. answered.Ok) _ c.unconnect.ensures.done c.unconnect.ensures.refused
+    c.short_reply-in-Unconnect.ensures.ok c.short_reply-in-Unconnect.ensures.err
