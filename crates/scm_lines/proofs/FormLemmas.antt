@@ -8,7 +8,7 @@ use Rattle.std.proofs.lemmas.Option.{same_Some}
 use Rattle.af_base.specs.declared.events.Shutdown.{Shutdown}
 use Rattle.af_base.specs.declared.events.Shutdown.TheVariants as shutdown
 use Rattle.af_base.specs.declared.events.SockType.{SockType}
-use Rattle.af_base.specs.declared.events.SockType.TheVariants.{Seqpacket, Stream}
+use Rattle.af_base.specs.declared.events.SockType.TheVariants.{Dgram, Seqpacket, Stream}
 use Rattle.scm_lines.specs.Words.{all_printable, at_end}
 use Rattle.scm_lines.specs.Attached.{attached_of}
 use Rattle.scm_lines.specs.Keywords.{how_of, hows, meaning, privilege_of, type_of, types, version_of, versions}
@@ -43,12 +43,13 @@ meaning_said {A} P (entry ∷ table) (first, others) word x e = by_test (bytes_e
 
 -- A type that is read is spelt by its name.
 type_said : (word : List ℕ) (kind : SockType) → type_of word ≡ Some kind → word ≡ type_name kind
-type_said = meaning_said (λ word kind. word ≡ type_name kind) types (refl, (refl, tt))
+type_said = meaning_said (λ word kind. word ≡ type_name kind) types (refl, (refl, (refl, tt)))
 
 -- The name of a type is read as that type.
 type_read : (kind : SockType) → type_of (type_name kind) ≡ Some kind
 type_read Stream = refl
 type_read Seqpacket = refl
+type_read Dgram = refl
 
 -- Ends that are read are spelt by their name.
 how_said : (word : List ℕ) (ends : Shutdown) → how_of word ≡ Some ends → word ≡ how_name ends

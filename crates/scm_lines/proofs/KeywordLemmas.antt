@@ -61,6 +61,9 @@ meaning_named {K} row (key ∷ keys) word = by_test (bytes_eq (row key).0 word) 
 pub no_other : {K A : Type 0} (row : K → FormRow A) (keys : List K) (n : ℕ) (firsts : List ℕ) → keys_pass (λ text. not (length text == n) || list_any (λ b. b == get_or text 0 0) firsts) row keys ≡ true → (word : List ℕ) → length word ≡ n → list_any (λ b. b == get_or word 0 0) firsts ≡ false → None ≡ row_named row keys word
 no_other row keys n firsts pass word long other = sym (no_key (λ text. not (length text == n) || list_any (λ b. b == get_or text 0 0) firsts) row keys word pass (rw (long, other) (grind (arith, nat_tests))))
 
--- Where no word has nine or more, a longer word is none.
-pub no_nine : {K A : Type 0} (row : K → FormRow A) (keys : List K) → keys_pass (λ text. nat_lt (length text) 9) row keys ≡ true → (word : List ℕ) → 9 ≤ length word → None ≡ row_named row keys word
-no_nine row keys pass word long = sym (no_key (λ text. nat_lt (length text) 9) row keys word pass (grind (arith, common_steps)))
+-- Where no word has ten or more, a longer word is none.
+pub no_ten : {K A : Type 0} (row : K → FormRow A) (keys : List K)
+    → keys_pass (λ text. nat_lt (length text) 10) row keys ≡ true → (word : List ℕ)
+    → 10 ≤ length word → None ≡ row_named row keys word
+no_ten row keys pass word long =
+    sym (no_key (λ text. nat_lt (length text) 10) row keys word pass (grind (arith, common_steps)))

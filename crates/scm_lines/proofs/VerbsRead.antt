@@ -1,5 +1,5 @@
 -- A line of a process is read by the row of its verb.
-use Rattle.std.proofs.Common.{◌≡◌, ℕ, ◌≤◌, ◌==◌, List, [], ◌∷◌, true, false, cond, length, Option, Some, None, refl, sym, ap, ◌∙◌, subst, arith}
+use Rattle.std.proofs.Common.{◌≡◌, ℕ, ◌≤◌, ◌==◌, ◌&&◌, List, [], ◌∷◌, Bool, true, false, cond, length, Option, Some, None, refl, sym, ap, ◌∙◌, subst, arith}
 use Rattle.std.specs.Option.{option_map}
 use Rattle.std.proofs.lemmas.Grind.{common_steps}
 use Rattle.std.proofs.lemmas.Option.{same_Some}
@@ -7,7 +7,7 @@ use Rattle.af_base.specs.declared.events.Step.{Step}
 use Rattle.af_base.specs.declared.events.Event.TheVariants as event
 use Rattle.scm_lines.specs.Words.{begins_comment, words_of, ◌>>=◌}
 use Rattle.scm_lines.specs.Numbers.{all_digits, is_digit, first_number, word_number}
-use Rattle.scm_lines.specs.Fitting.{has_verb}
+use Rattle.scm_lines.specs.Fitting.{has_types, has_verb}
 use Rattle.scm_lines.specs.Forms.{row_named, read_form, verb_row, verbs}
 use Rattle.scm_lines.specs.Meaning.{form_of, line_behind, step_of, words_say}
 use Rattle.scm_lines.specs.Versions.{allowed_in, has_line, has_step, read_in}
@@ -19,7 +19,7 @@ use Rattle.scm_lines.specs.declared.version.Version.{Version}
 use Rattle.af_base.proofs.DerivedEquality.{both}
 use Rattle.scm_lines.proofs.NumberLemmas.{number_digits, number_said}
 use Rattle.scm_lines.proofs.LineLemmas.{is_comment_of, line_said_by_words}
-use Rattle.scm_lines.proofs.VersionsFit.{made, verb_makes}
+use Rattle.scm_lines.proofs.VersionsFit.{verb_makes}
 
 -- A line that begins with a number is no comment.
 not_comment : (w : List ℕ) (n : ℕ) → word_number w ≡ Some n → begins_comment w ≡ false
@@ -63,20 +63,23 @@ unfolding step_of
 words_verb word words more k parted is = rw (parted, ← is) refl
 
 -- A step of a verb that the version has is read.
-passes : (v : Version) (pid : ℕ) (k : Verb) (r : Option Step) → ((does : Step) → r ≡ Some does → has_step v does ≡ has_verb v k) → has_verb v k ≡ true
+passes : (v : Version) (pid : ℕ) (b : Bool) (r : Option Step)
+    → ((does : Step) → r ≡ Some does → has_step v does ≡ b) → b ≡ true
     → (option_map (does_line pid) r >>= λ said. cond (has_line v said) (Some said) None) ≡ option_map (does_line pid) r
-passes v pid k None same has = refl
-passes v pid k (Some does) same has = rw (same does refl, has) refl
+passes v pid b None same has = refl
+passes v pid b (Some does) same has = rw (same does refl, has) refl
 
--- So a line is read by the row of its verb, where the version has the verb.
+-- So a line is read by the row of its verb, where the version has the verb and the type of its words.
 pub read_by_verb : (v : Version) (bytes word : List ℕ) (words more : List (List ℕ)) (pid : ℕ) (k : Verb)
     → length bytes ≤ MAX_LINE → Counts (first_number (words_of bytes)) pid words
     → words ≡ word ∷ more → Some k ≡ row_named verb_row verbs word → has_verb v k ≡ true
+    → has_types v k more ≡ true
     → read_in v bytes ≡ option_map (does_line pid) (read_form (verb_row k).1 more)
-read_by_verb v bytes word words more pid k short counted parted is has =
+read_by_verb v bytes word words more pid k short counted parted is has typed =
     let row = read_form (verb_row k).1 more in
     let said : words_say (words_of bytes) ≡ option_map (does_line pid) row =
     words_process (words_of bytes) words pid counted ∙ ap (option_map (does_line pid)) (words_verb word words more k parted is) in
     let whole = line_said_by_words bytes short (words_plain (words_of bytes) words pid counted) ∙ said in
     ap (allowed_in v) whole
-    ∙ passes v pid k row (made (λ does. has_step v does ≡ has_verb v k) (verb_row k).1 (verb_makes v k) more) has
+    ∙ passes v pid (has_types v k more
+    && has_verb v k) row (verb_makes v k more) (rw (typed, has) refl)

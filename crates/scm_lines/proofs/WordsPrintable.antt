@@ -6,7 +6,7 @@ use Rattle.std.proofs.lemmas.Grind.{common_steps}
 use Rattle.af_base.specs.declared.events.Shutdown.{Shutdown}
 use Rattle.af_base.specs.declared.events.Shutdown.TheVariants as shutdown
 use Rattle.af_base.specs.declared.events.SockType.{SockType}
-use Rattle.af_base.specs.declared.events.SockType.TheVariants.{Seqpacket, Stream}
+use Rattle.af_base.specs.declared.events.SockType.TheVariants.{Dgram, Seqpacket, Stream}
 use Rattle.scm_lines.specs.Words.{all_printable, ends_word, is_blank, onto_word, words_of}
 use Rattle.scm_lines.specs.Numbers.{all_digits, is_digit}
 use Rattle.scm_lines.specs.Payload.{hex_value, is_plain}
@@ -119,6 +119,7 @@ items_printable (word ∷ words) fds (first, others, (item, items, e)) =
 pub type_printable : (kind : SockType) → all_printable (type_name kind) ≡ true
 type_printable Stream = refl
 type_printable Seqpacket = refl
+type_printable Dgram = refl
 
 -- So is the name of ends.
 pub how_printable : (ends : Shutdown) → all_printable (how_name ends) ≡ true

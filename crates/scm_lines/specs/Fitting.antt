@@ -1,5 +1,6 @@
 -- Which words fit a form, and why a word is no number. This project's profile.
 use Rattle.std.specs.Prelude.{ℕ, nat_le, ◌==◌, ◌&&◌, List, [], ◌∷◌, Bool, true, false, if◌then◌else◌, Option, Some, None, is_some}
+use Rattle.std.specs.Option.{option_map_or}
 use Rattle.af_base.specs.declared.events.Step.{Step}
 use Rattle.scm_lines.specs.Words.{all_printable, no_words}
 use Rattle.scm_lines.specs.Numbers.{all_digits, word_number}
@@ -7,7 +8,7 @@ use Rattle.scm_lines.specs.Payload.{payload_of}
 use Rattle.scm_lines.specs.Attached.{attached_of}
 use Rattle.scm_lines.specs.Keywords.{how_of, privilege_of, type_of, version_of}
 use Rattle.scm_lines.specs.Meaning.{form_of, step_of, ◌>>=◌}
-use Rattle.scm_lines.specs.Versions.{has_line, has_step, is_unknown, number_of}
+use Rattle.scm_lines.specs.Versions.{has_line, has_step, has_type, is_unknown, number_of}
 use Rattle.scm_lines.specs.declared.line.Line.{Line}
 use Rattle.scm_lines.specs.declared.explain.Last.{Last}
 use Rattle.scm_lines.specs.declared.explain.Last.TheVariants as last
@@ -32,10 +33,14 @@ digits_reason (b ∷ c ∷ bytes) = if b == 48 then reason.LeadingZero else reas
 abbrev pub number_reason : List ℕ → Reason
 number_reason word = if all_digits word then digits_reason word else reason.NotANumber
 
+-- The word is a type of sockets that a script of this version has.
+abbrev pub fits_type : Version → List ℕ → Bool
+fits_type v word = option_map_or (has_type v) (type_of word) false
+
 -- The word is what is wanted.
 abbrev pub fits_word : Wanted → List ℕ → Bool
 fits_word wanted.Number word = is_some (word_number word)
-fits_word wanted.Type word = is_some (type_of word)
+fits_word (wanted.Type v) word = fits_type v word
 fits_word wanted.Name word = all_printable word
 fits_word wanted.Bytes word = is_some (payload_of word)
 fits_word wanted.How word = is_some (how_of word)
@@ -58,11 +63,23 @@ abbrev pub first_number_of_verb : Verb → ℕ
 first_number_of_verb verb.Peek = 2
 first_number_of_verb verb.Limit = 2
 first_number_of_verb verb.Shutdown = 3
+first_number_of_verb verb.Unconnect = 3
 first_number_of_verb other = 1
 
 -- Events with this verb can come now.
 abbrev pub has_verb : Version → Verb → Bool
 has_verb v verb = nat_le (first_number_of_verb verb) (number_of v)
+
+-- The script has the type of sockets that the words begin with, if they begin with one.
+abbrev pub has_type_at : Version → List (List ℕ) → Bool
+has_type_at v [] = true
+has_type_at v (word ∷ words) = option_map_or (has_type v) (type_of word) true
+
+-- The script has the type of sockets that the words behind a verb name, if they name one.
+abbrev pub has_types : Version → Verb → List (List ℕ) → Bool
+has_types v verb.Pair words = has_type_at v words
+has_types v verb.Socket words = has_type_at v words
+has_types v other words = true
 
 -- A line with this keyword can come now.
 abbrev pub has_keyword : Version → Keyword → Bool

@@ -122,6 +122,7 @@ verb_row verb.Peek = (
 verb_row verb.Limit = (codes "limit", number ◂ λ nofile. end (step.Limit nofile))
 verb_row verb.Shutdown =
     (codes "shutdown", number ◂ λ on. how ◂ λ ends. end (step.Shutdown on ends))
+verb_row verb.Unconnect = (codes "unconnect", number ◂ λ on. end (step.Unconnect on))
 
 -- The row of a keyword: the meaning of a line without a process's number.
 abbrev pub line_row : Keyword → FormRow Line
@@ -143,7 +144,8 @@ abbrev pub verbs : List Verb
 verbs =
     verb.Send ∷ verb.Recv ∷ verb.Open ∷ verb.Close ∷ verb.Dup ∷ verb.Dup2
     ∷ verb.Connect ∷ verb.Accept ∷ verb.Socket ∷ verb.Pair ∷ verb.Fork ∷ verb.Exit
-    ∷ verb.Bind ∷ verb.Listen ∷ verb.Peek ∷ verb.Limit ∷ verb.Shutdown ∷ []
+    ∷ verb.Bind ∷ verb.Listen ∷ verb.Peek ∷ verb.Limit ∷ verb.Shutdown
+    ∷ verb.Unconnect ∷ []
 
 -- All keywords.
 abbrev pub keywords : List Keyword

@@ -5,7 +5,7 @@ use Rattle.std.specs.Str.{bytes_eq}
 use Rattle.af_base.specs.declared.events.Shutdown.{Shutdown}
 use Rattle.af_base.specs.declared.events.Shutdown.TheVariants as how
 use Rattle.af_base.specs.declared.events.SockType.{SockType}
-use Rattle.af_base.specs.declared.events.SockType.TheVariants.{Seqpacket, Stream}
+use Rattle.af_base.specs.declared.events.SockType.TheVariants.{Dgram, Seqpacket, Stream}
 use Rattle.scm_lines.specs.Words.{at_end}
 use Rattle.scm_lines.specs.declared.version.Version.{Version}
 use Rattle.scm_lines.specs.declared.version.Version.TheVariants as version
@@ -16,7 +16,7 @@ meaning table word = option_map (λ entry. entry.1) (find (λ entry. bytes_eq en
 
 -- The types of sockets, each with its word.
 abbrev pub types : List (List ℕ × SockType)
-types = (codes "stream", Stream) ∷ (codes "seqpacket", Seqpacket) ∷ []
+types = (codes "stream", Stream) ∷ (codes "seqpacket", Seqpacket) ∷ (codes "dgram", Dgram) ∷ []
 
 -- The type of sockets that a word names.
 abbrev pub type_of : List ℕ → Option SockType

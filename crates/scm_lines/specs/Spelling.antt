@@ -5,7 +5,7 @@ use Rattle.std.specs.Fmt.{decimal}
 use Rattle.af_base.specs.declared.events.Shutdown.{Shutdown}
 use Rattle.af_base.specs.declared.events.Shutdown.TheVariants as how
 use Rattle.af_base.specs.declared.events.SockType.{SockType}
-use Rattle.af_base.specs.declared.events.SockType.TheVariants.{Seqpacket, Stream}
+use Rattle.af_base.specs.declared.events.SockType.TheVariants.{Dgram, Seqpacket, Stream}
 use Rattle.scm_lines.specs.Payload.{hex_value, is_plain}
 use Rattle.scm_lines.specs.declared.version.Version.{Version}
 use Rattle.scm_lines.specs.declared.version.Version.TheVariants as version
@@ -56,6 +56,7 @@ IsAttached words fds = (length fds ≤ 1024) × AreItems words fds
 abbrev pub type_name : SockType → List ℕ
 type_name Stream = codes "stream"
 type_name Seqpacket = codes "seqpacket"
+type_name Dgram = codes "dgram"
 
 -- The name of the ends that shutdown(2) closes.
 abbrev pub how_name : Shutdown → List ℕ

@@ -1,6 +1,8 @@
 -- The versions of the language: which lines a script may have, by the lines before. This project's
 -- profile.
 use Rattle.std.specs.Prelude.{Bool, true, false, nat_le, List, ℕ, if◌then◌else◌, Option, Some, None}
+use Rattle.af_base.specs.declared.events.SockType.{SockType}
+use Rattle.af_base.specs.declared.events.SockType.TheVariants.{Dgram, Seqpacket, Stream}
 use Rattle.af_base.specs.declared.events.Step.{Step}
 use Rattle.af_base.specs.declared.events.Step.TheVariants as step
 use Rattle.af_base.specs.declared.events.Event.TheVariants as event
@@ -22,11 +24,24 @@ number_of version.First = 1
 number_of version.Second = 2
 number_of version.Third = 3
 
+-- The number of the first version that has sockets of this type.
+abbrev pub first_number_of_type : SockType → ℕ
+first_number_of_type Stream = 1
+first_number_of_type Seqpacket = 1
+first_number_of_type Dgram = 3
+
+-- The script has sockets of this type.
+abbrev pub has_type : Version → SockType → Bool
+has_type v kind = nat_le (first_number_of_type kind) (number_of v)
+
 -- The number of the first version that has the step.
 abbrev pub first_number_of : Step → ℕ
 first_number_of (step.Peek on max_bytes max_fds) = 2
 first_number_of (step.Limit nofile) = 2
 first_number_of (step.Shutdown on how) = 3
+first_number_of (step.Unconnect on) = 3
+first_number_of (step.Pair kind) = first_number_of_type kind
+first_number_of (step.Socket kind) = first_number_of_type kind
 first_number_of other = 1
 
 -- The script has the step: its version is the first that has it, or a later one.

@@ -1,8 +1,8 @@
 //! The search for the first word that does not fit in a line that cannot be read.
-ghost use Rattle.std.specs.Prelude.{◌≡◌, ◌≤◌, ◌<◌, ◌+◌, ◌-◌, ◌^◌, IfSome, Some, false, length, not};
-ghost use Rattle.std.specs.Prelude.{is_none, is_some};
+ghost use Rattle.std.specs.Prelude.{◌≡◌, ◌≤◌, ◌<◌, ◌+◌, ◌-◌, ◌^◌, ◌||◌, IfSome, Some, false};
+ghost use Rattle.std.specs.Prelude.{is_none, is_some, length, not};
 ghost use Rattle.scm_lines.specs.Fitting.{fits_last, fits_word, fits_words, form_in};
-ghost use Rattle.scm_lines.specs.Fitting.{has_keyword, has_verb, step_in};
+ghost use Rattle.scm_lines.specs.Fitting.{has_keyword, has_types, has_verb, step_in};
 ghost use Rattle.scm_lines.specs.Forms.{line_row, read_form, verb_row};
 ghost use Rattle.scm_lines.specs.Keywords.{privilege_of};
 ghost use Rattle.scm_lines.specs.Versions.{read_in};
@@ -25,7 +25,8 @@ use crate::words::first_word;
 #[derive(Clone, Copy)]
 enum Wanted {
     Number,
-    Type,
+    /// A type that a script of this version has.
+    Type(Version),
     Name,
     Bytes,
     How,
@@ -50,7 +51,7 @@ fn why_word(wanted: Wanted, word: &[u8]) -> Option<Misfit>
 {
     match wanted {
         Wanted::Number => why_number(word),
-        Wanted::Type => why_type(word),
+        Wanted::Type(version) => why_type(version, word),
         Wanted::Name => first_unprintable(word),
         Wanted::Bytes => why_payload(word),
         Wanted::How => why_how(word),
@@ -118,19 +119,21 @@ fn why_words(wanted: &[Wanted], last: Last, bytes: &[u8]) -> Option<Misfit>
     why_last(last, rest)
 }
 
-/// Returns why the words behind `verb` are not of its form; `None` if they are.
-fn why_step(verb: Verb, bytes: &[u8]) -> Option<Misfit>
-    ensures exact { is_some result ≡ is_none (read_form (verb_row verb).1 (words_of bytes.now)) }
+/// Returns why the words behind `verb` are not of its form, or a script of `version` does not have
+/// the type of sockets that they name; `None` if they are, and it has.
+fn why_step(version: Version, verb: Verb, bytes: &[u8]) -> Option<Misfit>
+    ensures exact { is_some result ≡ (not (has_types version verb (words_of bytes.now))
+        || is_none (read_form (verb_row verb).1 (words_of bytes.now))) }
     ensures within { IfSome result (λ m. m.left ≤ length bytes.now) }
 {
     use Wanted::{Bytes, How, Name, Number, Type};
     match verb {
         Verb::Open | Verb::Fork | Verb::Exit => why_words(&[], Last::Nothing, bytes),
-        Verb::Dup | Verb::Close | Verb::Accept | Verb::Limit => {
+        Verb::Dup | Verb::Close | Verb::Accept | Verb::Limit | Verb::Unconnect => {
             why_words(&[Number], Last::Nothing, bytes)
         }
         Verb::Dup2 | Verb::Listen => why_words(&[Number, Number], Last::Nothing, bytes),
-        Verb::Pair | Verb::Socket => why_words(&[Type], Last::Nothing, bytes),
+        Verb::Pair | Verb::Socket => why_words(&[Type(version)], Last::Nothing, bytes),
         Verb::Bind | Verb::Connect => why_words(&[Number, Name], Last::Nothing, bytes),
         Verb::Send => why_words(&[Number, Bytes], Last::Items, bytes),
         Verb::Recv | Verb::Peek => { why_words(&[Number, Number, Number], Last::Nothing, bytes) }
@@ -160,7 +163,7 @@ fn why_process(version: Version, bytes: &[u8]) -> Option<Misfit>
     let Some(verb) = verb_named(word) else {
         return Some(Misfit::at(Reason::UnknownVerb, word).before(rest));
     };
-    let misfit = why_step(verb, rest);
+    let misfit = why_step(version, verb, rest);
     if misfit.is_some() || has_verb(version, verb) {
         return misfit;
     }

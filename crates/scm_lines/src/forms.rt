@@ -225,6 +225,16 @@ pub fn shutdown(rest: &[u8]) -> Option<(Fd, Shutdown)>
     is_end(rest).then_some((Fd(on), how))
 }
 
+/// Reads `P unconnect N`.
+#[inline(always)]
+pub fn unconnect(rest: &[u8]) -> Option<Fd>
+    ensures { option_map step.Unconnect result
+        ≡ read_form (verb_row verb.Unconnect).1 (words_of rest.now) }
+{
+    let (on, rest) = number_in(rest)?;
+    is_end(rest).then_some(Fd(on))
+}
+
 // ---- a step as a value
 
 /// Reads the step `bind`, and copies the name.
@@ -306,6 +316,7 @@ fn step(alloc: Global, verb: Verb, rest: &[u8]) -> Result<Step, LineFault>
         Verb::Peek => peek_step(rest),
         Verb::Limit => limit(rest).map(Step::Limit),
         Verb::Shutdown => shutdown(rest).map(|(on, how)| Step::Shutdown { on, how }),
+        Verb::Unconnect => unconnect(rest).map(Step::Unconnect),
     };
     read.ok_or(LineFault::Unreadable)
 }

@@ -64,6 +64,8 @@ pub enum Verb {
     Limit,
     /// `shutdown`, of version 3
     Shutdown,
+    /// `unconnect`, of version 3
+    Unconnect,
 }
 
 /// Each keyword, with its word.
@@ -79,9 +81,10 @@ const KEYWORDS: [(&[u8], Keyword); 8] = [
 ];
 
 /// Each type of sockets, with its word.
-const TYPES: [(&[u8], SockType); 2] = [
+const TYPES: [(&[u8], SockType); 3] = [
     (b"stream", SockType::Stream),
     (b"seqpacket", SockType::Seqpacket),
+    (b"dgram", SockType::Dgram),
 ];
 
 /// Which ends shutdown(2) closes, each with its word.
@@ -152,6 +155,7 @@ pub fn verb_named(word: &[u8]) -> Option<Verb>
         b"peek" => Verb::Peek,
         b"limit" => Verb::Limit,
         b"shutdown" => Verb::Shutdown,
+        b"unconnect" => Verb::Unconnect,
         _ => return None,
     })
 }

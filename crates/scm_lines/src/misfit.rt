@@ -2,8 +2,8 @@
 ghost use Rattle.std.specs.Prelude.{◌≡◌, ◌≤◌, ◌<◌, ◌+◌, ◌-◌, ◌^◌, ◌∷◌, IfSome, length, not};
 ghost use Rattle.std.specs.Prelude.{Some, is_none, is_some, position};
 ghost use Rattle.scm_lines.specs.Attached.{attached_of};
-ghost use Rattle.scm_lines.specs.Fitting.{digits_reason, number_reason};
-ghost use Rattle.scm_lines.specs.Keywords.{how_of, type_of, version_of};
+ghost use Rattle.scm_lines.specs.Fitting.{digits_reason, fits_type, number_reason};
+ghost use Rattle.scm_lines.specs.Keywords.{how_of, version_of};
 ghost use Rattle.scm_lines.specs.Numbers.{is_digit, word_number};
 ghost use Rattle.scm_lines.specs.Payload.{at_most, payload_of, unescape};
 ghost use Rattle.scm_lines.specs.declared.reason.Reason.TheVariants as reason;
@@ -14,6 +14,7 @@ use crate::keywords::{how_named, type_named, version_named};
 use crate::numbers::number;
 use crate::payload::{MAX_PAYLOAD, first_byte};
 use crate::reason::Reason;
+use crate::version::{Version, has_type};
 use crate::words::{first_word, is_printable};
 
 /// The first byte of a text that does not fit, and why.
@@ -113,14 +114,18 @@ pub fn why_number(word: &[u8]) -> Option<Misfit>
     }
 }
 
-/// Returns why `word` is no type of sockets; `None` if it is.
-pub fn why_type(word: &[u8]) -> Option<Misfit>
-    ensures exact { is_some result ≡ is_none (type_of word.now) }
+/// Returns why `word` is no type of sockets in a script of `version`; `None` if it is.
+pub fn why_type(version: Version, word: &[u8]) -> Option<Misfit>
+    ensures exact { is_some result ≡ not (fits_type version word.now) }
     ensures within { IfSome result (λ m. m.left ≤ length word.now) }
 {
+    let reason = match version {
+        Version::Third => Reason::UnknownType,
+        _ => Reason::UnknownOldType,
+    };
     match type_named(word) {
-        Some(_) => None,
-        None => Some(Misfit::at(Reason::UnknownType, word)),
+        Some(kind) if has_type(version, kind) => None,
+        _ => Some(Misfit::at(reason, word)),
     }
 }
 

@@ -24,8 +24,10 @@ pub enum Reason {
     LeadingZero,
     /// A number does not fit 32 bits.
     NumberTooLarge,
-    /// A type of sockets is one of two words.
+    /// A type of sockets is one of three words.
     UnknownType,
+    /// The script is of version 1 or 2, where a type of sockets is one of two words.
+    UnknownOldType,
     /// The ends to close are one of three words.
     UnknownHow,
     /// Only one word may follow the numbers of `spawn`.
@@ -63,7 +65,8 @@ impl Reason {
             Reason::NotANumber => "a number has only the digits 0 to 9",
             Reason::LeadingZero => "a number has no leading zero",
             Reason::NumberTooLarge => "a number is at most 4294967295",
-            Reason::UnknownType => "a type is seqpacket or stream",
+            Reason::UnknownType => "a type is dgram, seqpacket or stream",
+            Reason::UnknownOldType => "a type is seqpacket or stream",
             Reason::UnknownHow => "HOW is read, write or both",
             Reason::NotPriv => "only priv can stand here",
             Reason::NotInBytes => {

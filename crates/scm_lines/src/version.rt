@@ -2,15 +2,16 @@
 //!
 //! A script is of version 2 or 3 where its first line that is not silent is `version 2` or
 //! `version 3`, else of version 1. A version has all events of those before it. Version 2 adds
-//! `peek` and `limit`, version 3 `shutdown`.
+//! `peek` and `limit`, version 3 `shutdown`, `unconnect` and sockets of the type `dgram`.
 ghost use Rattle.std.specs.Prelude.{◌≡◌, IfErr, IfSome, if◌then◌else◌, true};
 ghost use Rattle.std.specs.Option.{option_map};
 ghost use Rattle.af_base.specs.declared.events.Event.TheVariants as event;
 ghost use Rattle.scm_lines.specs.Fault.{Reads};
-ghost use Rattle.scm_lines.specs.Fitting.{first_number_of_verb, has_verb};
+ghost use Rattle.scm_lines.specs.Fitting.{first_number_of_verb, has_type_at, has_types, has_verb};
 ghost use Rattle.scm_lines.specs.Forms.{line_row, read_form, verb_row};
 ghost use Rattle.scm_lines.specs.Meaning.{line_takes_memory};
-ghost use Rattle.scm_lines.specs.Versions.{allowed_in, first_number_of, has_line, is_unknown};
+ghost use Rattle.scm_lines.specs.Versions.{allowed_in, first_number_of, first_number_of_type};
+ghost use Rattle.scm_lines.specs.Versions.{has_line, has_type, is_unknown};
 ghost use Rattle.scm_lines.specs.Versions.{number_of, read_in, version_after};
 ghost use Rattle.scm_lines.specs.Words.{words_of};
 ghost use Rattle.scm_lines.specs.declared.fault.LineFault.TheVariants as fault;
@@ -18,11 +19,11 @@ ghost use Rattle.scm_lines.specs.declared.line.Line.TheVariants as line;
 ghost use Rattle.scm_lines.specs.declared.version.Version.TheVariants as version;
 
 use crate::fault::LineFault;
-use crate::keywords::{Keyword, Verb, event_at, verb_named};
+use crate::keywords::{Keyword, Verb, event_at, type_named, verb_named};
 use crate::line::{Line, MAX_LINE, line_of};
 use crate::numbers::number_in;
 use crate::words::{ends_word, first_word};
-use af_base::events::{Event, Step};
+use af_base::events::{Event, SockType, Step};
 use af_base::ids::Pid;
 use std::alloc::Global;
 
@@ -90,8 +91,40 @@ fn first_number(step: &Step) -> u32
 {
     match step {
         Step::Peek { .. } | Step::Limit(_) => 2,
-        Step::Shutdown { .. } => 3,
+        Step::Shutdown { .. } | Step::Unconnect(_) => 3,
+        Step::Pair(kind) | Step::Socket(kind) => first_number_of_type(*kind),
         _ => 1,
+    }
+}
+
+/// Returns the number of the first version that has sockets of this type.
+fn first_number_of_type(kind: SockType) -> u32
+    ensures { result ≡ first_number_of_type kind }
+{
+    match kind {
+        SockType::Dgram => 3,
+        _ => 1,
+    }
+}
+
+/// Returns whether a script of `version` may have sockets of this type.
+pub fn has_type(version: Version, kind: SockType) -> bool
+    ensures { result ≡ has_type version kind }
+{
+    first_number_of_type(kind) <= version.number()
+}
+
+/// Returns whether a script of `version` has the type of sockets that the words begin with, if they
+/// begin with one.
+fn has_type_at(version: Version, bytes: &[u8]) -> bool
+    ensures { result ≡ has_type_at version (words_of bytes.now) }
+{
+    let Some((word, _)) = first_word(bytes) else {
+        return true;
+    };
+    match type_named(word) {
+        Some(kind) => has_type(version, kind),
+        None => true,
     }
 }
 
@@ -101,7 +134,7 @@ pub fn first_number_of_verb(verb: Verb) -> u32
 {
     match verb {
         Verb::Peek | Verb::Limit => 2,
-        Verb::Shutdown => 3,
+        Verb::Shutdown | Verb::Unconnect => 3,
         _ => 1,
     }
 }
@@ -111,6 +144,17 @@ pub fn has_verb(version: Version, verb: Verb) -> bool
     ensures { result ≡ has_verb version verb }
 {
     first_number_of_verb(verb) <= version.number()
+}
+
+/// Returns whether a script of `version` has the type of sockets that the words behind `verb` name,
+/// if they name one.
+fn has_types(version: Version, verb: Verb, bytes: &[u8]) -> bool
+    ensures { result ≡ has_types version verb (words_of bytes.now) }
+{
+    match verb {
+        Verb::Pair | Verb::Socket => has_type_at(version, bytes),
+        _ => true,
+    }
 }
 
 /// Returns the process and the verb that a process's line begins with, and the bytes after them.
@@ -128,7 +172,7 @@ pub fn verb_in(version: Version, bytes: &[u8]) -> Option<(Pid, Verb, &[u8])>
     let (pid, rest) = number_in(bytes)?;
     let (word, rest) = first_word(rest)?;
     let verb = verb_named(word)?;
-    if has_verb(version, verb) {
+    if has_verb(version, verb) && has_types(version, verb, rest) {
         Some((Pid(pid), verb, rest))
     } else {
         None

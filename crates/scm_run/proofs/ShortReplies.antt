@@ -24,7 +24,7 @@ use Rattle.af_base.specs.declared.events.Event.TheVariants as event
 use Rattle.af_base.specs.declared.events.Reply.{Reply}
 use Rattle.af_base.specs.declared.events.Reply.TheVariants as reply
 use Rattle.af_base.specs.declared.events.SockType.{SockType}
-use Rattle.af_base.specs.declared.events.SockType.TheVariants.{Seqpacket, Stream}
+use Rattle.af_base.specs.declared.events.SockType.TheVariants.{Dgram, Seqpacket, Stream}
 use Rattle.af_base.specs.declared.events.Step.{Step}
 use Rattle.af_base.specs.declared.events.Step.TheVariants as step
 use Rattle.af_base.specs.declared.limits.TheConstants.{MAX_BYTES, SCM_MAX_FD}
@@ -63,6 +63,10 @@ taken-within : (kind : SockType) (q : List Message) (n : ℕ) → n ≤ MAX_BYTE
 taken-within Stream q n low k = stream-within q n low k (find has_files q) refl
 taken-within Seqpacket [] n low k = (omega arith, omega arith)
 taken-within Seqpacket (m ∷ q) n low k =
+    let few = (k m (Contains-first m q)).attached in
+    (omega (arith, low, length-take n m.bytes), omega (arith, few))
+taken-within Dgram [] n low k = (omega arith, omega arith)
+taken-within Dgram (m ∷ q) n low k =
     let few = (k m (Contains-first m q)).attached in
     (omega (arith, low, length-take n m.bytes), omega (arith, few))
 

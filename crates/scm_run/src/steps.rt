@@ -67,6 +67,7 @@ pub fn do_step(
         Verb::Peek => return peek(engine, pid, rest, text),
         Verb::Limit => call!(push_done(text), engine.limit(pid; nofile), rest),
         Verb::Shutdown => call!(push_done(text), engine.shutdown(pid; on, how), rest),
+        Verb::Unconnect => call!(push_done(text), engine.unconnect(pid; on), rest),
     }
     Ok(())
 }

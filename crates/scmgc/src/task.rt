@@ -52,8 +52,9 @@ const OF_SCRIPTS: &str =
 One whose first line is 'version 2' or 'version 3' may also have
   P peek N N N      process P sees what it may receive: socket, most bytes, most descriptors
   P limit N         process P has another limit on its descriptors
-and one whose first line is 'version 3'
-  P shutdown N HOW  process P closes ends of a socket: read, write or both";
+and one whose first line is 'version 3', where a TYPE may also be dgram,
+  P shutdown N HOW  process P closes ends of a socket: read, write or both
+  P unconnect N     process P lets a datagram socket send to none";
 
 /// The help on playing.
 const OF_PLAYING: &str =

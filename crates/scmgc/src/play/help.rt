@@ -11,8 +11,8 @@ P dup2 N N           copy a descriptor to a number
 P close N            close a descriptor
 P fork               start a child process
 P exit               end the process
-P pair TYPE          make two connected sockets: seqpacket or stream
-P socket TYPE        make a socket: seqpacket or stream
+P pair TYPE          make two connected sockets: dgram, seqpacket or stream
+P socket TYPE        make a socket: dgram, seqpacket or stream
 P bind N NAME        name a socket
 P listen N N         listen at a socket: most connections that wait
 P connect N NAME     connect a socket
@@ -22,6 +22,7 @@ P recv N N N         receive: socket, most bytes, most descriptors
 P peek N N N         see what a receive would take (version 2)
 P limit N            set the limit on descriptors (version 2)
 P shutdown N HOW     close ends of a socket: read, write or both (version 3)
+P unconnect N        let a datagram socket send to none (version 3)
 begin                begin a pass of the collector
 slice N              continue it, by at most N units
 pass                 make a whole pass

@@ -2,7 +2,8 @@
 ghost use Rattle.std.specs.Prelude.{◌≡◌, ◌≤◌, ◌+◌, ℕ, [], IfOk, map, take, vec_len};
 ghost use Rattle.af_layer.specs.Audit.{AreEmptied, IsWholeBook, list_at};
 ghost use Rattle.af_layer.specs.Log.{BookView, IsLegalFrom};
-ghost use Rattle.scmgc.specs.Race.Parts.{AreFresh, ChildrenExitInPart, Continues, EndsPart, IsOfEnd};
+ghost use Rattle.scmgc.specs.Race.Parts.{AreFresh, ChildrenExitInPart, Continues, EndsPart};
+ghost use Rattle.scmgc.specs.Race.Parts.{IsOfEnd};
 ghost use Rattle.scmgc.specs.Race.Parts.{IsOfPart, IsOfStart, IsPart, SeatsHave, taken};
 ghost use Rattle.scmgc.specs.Race.{all_exits_of, worker_steps};
 ghost use Rattle.scmgc.specs.declared.race.workload.table.TheConstants.{MAX_WORKERS};

@@ -44,3 +44,9 @@ returns-in-Some-limit c = step_done _ _ _ _ _ c.args.rest.now _ _ _ c.limit-in-L
 
 pub returns-in-Some-shutdown : goal.returns-in-Some-shutdown
 returns-in-Some-shutdown c = step_done _ _ _ _ _ c.args.rest.now _ _ _ c.shutdown-in-Shutdown.result (λ _. reply.Ok) c.in-Shutdown.is c.in-Some-shutdown.ensures c.shutdown-in-Shutdown.ensures.done c.shutdown-in-Shutdown.ensures.refused c.push_done-in-Shutdown.ensures
+
+pub returns-in-Some-unconnect : goal.returns-in-Some-unconnect
+returns-in-Some-unconnect c =
+    step_done _ _ _ _ _ c.args.rest.now _ _ _ c.unconnect-in-Unconnect.result (λ _. reply.Ok)
+    c.in-Unconnect.is c.in-Some-unconnect.ensures c.unconnect-in-Unconnect.ensures.done
+    c.unconnect-in-Unconnect.ensures.refused c.push_done-in-Unconnect.ensures
