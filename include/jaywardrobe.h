@@ -95,6 +95,9 @@ enum jw_error {
     JW_EBUSY = 18,        /* A pass runs. */
     JW_EIDLE = 19,        /* No pass runs. */
     JW_ERANGE = 20,       /* The limit on descriptors is too large. */
+    JW_EPERM = 21,        /* The datagram socket sends to another one, and takes from that one
+                           * alone. */
+    JW_EOPNOTSUPP = 22,   /* Sockets of this type cannot do that. */
     JW_ENOENGINE = 100,   /* The handle has no engine: none was made, or it was freed. */
     JW_EDIFFERS = 101     /* A kept number is not its recount: proved never to be answered. */
 };
@@ -120,14 +123,15 @@ enum jw_kind {
     JW_NO_FILE = 0,   /* No live file has this number. */
     JW_STREAM = 1,    /* SOCK_STREAM: bytes in order, with no borders between messages. */
     JW_SEQPACKET = 2, /* SOCK_SEQPACKET: connected, keeps the borders between messages. */
-    JW_PLAIN = 3      /* A plain file. */
+    JW_PLAIN = 3,     /* A plain file. */
+    JW_DGRAM = 4      /* SOCK_DGRAM: sends to a target, keeps the borders between messages. */
 };
 
 /* The connection state of a socket. */
 enum jw_state {
     JW_IDLE = 0,      /* Was never connected, and does not listen. */
     JW_LISTENING = 1, /* Waits for connections. */
-    JW_CONNECTED = 2, /* Is connected to a live peer. */
+    JW_CONNECTED = 2, /* Is connected to a live peer, or has a target, live or freed. */
     JW_HUNG_UP = 3    /* Was connected; the peer is gone. */
 };
 
@@ -170,7 +174,8 @@ struct jw_ready {
 struct jw_file {
     uint32_t kind;     /* The kind of the file (enum jw_kind). */
     uint32_t state;    /* The state of the socket (enum jw_state). */
-    uint64_t peer;     /* The inode number of the peer of a connected socket, else 0. */
+    uint64_t peer;     /* The inode number of the peer of a connected socket, or of the target, live
+                        * or freed, of a datagram socket; else 0. */
     uint64_t messages; /* How many messages the socket can receive. */
     uint64_t embryos;  /* How many connections wait to be accepted at the listener. */
 };
@@ -224,6 +229,8 @@ static inline int jw_errno(int64_t answer) {
     case JW_ENOMEM: return ENOMEM;
     case JW_EBUSY: return EBUSY;
     case JW_ERANGE: return ERANGE;
+    case JW_EPERM: return EPERM;
+    case JW_EOPNOTSUPP: return EOPNOTSUPP;
     case JW_EIDLE: return EINVAL;
     case JW_ENOENGINE: return ENXIO;
     default: return EIO;
@@ -255,6 +262,8 @@ static inline const char *jw_strerror(int64_t answer) {
     case JW_EBUSY: return "EBUSY";
     case JW_EIDLE: return "EIDLE";
     case JW_ERANGE: return "ERANGE";
+    case JW_EPERM: return "EPERM";
+    case JW_EOPNOTSUPP: return "EOPNOTSUPP";
     case JW_ENOENGINE: return "ENOENGINE";
     case JW_EDIFFERS: return "EDIFFERS";
     default: return "unknown";
@@ -312,14 +321,14 @@ int64_t jw_exit(jw_engine *engine, uint32_t pid);
 
 /* ---- Sockets ---- */
 
-/* Makes two connected sockets of type JW_STREAM or JW_SEQPACKET (socketpair(2)), and writes their
- * descriptors. Answers 0.
+/* Makes two connected sockets of type JW_STREAM, JW_SEQPACKET or JW_DGRAM (socketpair(2)), and
+ * writes their descriptors. Answers 0.
  * Errors: JW_EINVAL for another type, before all else; JW_ESRCH, JW_EMFILE, JW_ENFILE,
  * JW_ENOMEM. */
 JW_MUST_USE JW_NONNULL(1, 4)
 int64_t jw_pair(jw_engine *engine, uint32_t pid, uint32_t kind, struct jw_pair *out);
 
-/* Makes a socket of type JW_STREAM or JW_SEQPACKET (socket(2)). Answers its descriptor.
+/* Makes a socket of type JW_STREAM, JW_SEQPACKET or JW_DGRAM (socket(2)). Answers its descriptor.
  * Errors: JW_EINVAL for another type, before all else; JW_ESRCH, JW_EMFILE, JW_ENFILE,
  * JW_ENOMEM. */
 JW_MUST_USE JW_NONNULL(1)
@@ -332,27 +341,38 @@ JW_MUST_USE JW_NONNULL(1)
 int64_t jw_bind(jw_engine *engine, uint32_t pid, uint32_t fd, const void *name, size_t len);
 
 /* Lets a socket with a name wait for connections, with room for 1 to 128 (listen(2)). Answers 0.
- * Errors: JW_ESRCH, JW_EBADF, JW_ENOTSOCK, JW_EINVAL, JW_ENOMEM. */
+ * Errors: JW_ESRCH, JW_EBADF, JW_ENOTSOCK, JW_EOPNOTSUPP for a datagram socket, JW_EINVAL,
+ * JW_ENOMEM. */
 JW_MUST_USE JW_NONNULL(1)
 int64_t jw_listen(jw_engine *engine, uint32_t pid, uint32_t fd, uint32_t backlog);
 
 /* Closes an end of a socket, or both (shutdown(2)): its input for JW_SHUT_RD, its output for
- * JW_SHUT_WR, both for JW_SHUT_RDWR; and with them the peer's output or input. What waits can still
- * be received. An end is never opened again. Answers 0.
+ * JW_SHUT_WR, both for JW_SHUT_RDWR; and with them the peer's output or input, but not a target's.
+ * What waits can still be received. An end is never opened again. Answers 0.
  * Errors: JW_EINVAL for another number, before all else; JW_ESRCH, JW_EBADF, JW_ENOTSOCK. */
 JW_MUST_USE JW_NONNULL(1)
 int64_t jw_shutdown(jw_engine *engine, uint32_t pid, uint32_t fd, uint32_t how);
 
+/* Leaves a datagram socket without a target (connect(2) to AF_UNSPEC). If it had one, what waits
+ * there is lost. Answers 0.
+ * Errors: JW_ESRCH, JW_EBADF, JW_ENOTSOCK, JW_EINVAL for a socket of another type. */
+JW_MUST_USE JW_NONNULL(1)
+int64_t jw_unconnect(jw_engine *engine, uint32_t pid, uint32_t fd);
+
 /* Connects a socket to the listener of this name, without waiting (connect(2)). The socket is
  * connected immediately, and the other end waits to be accepted. Answers 0.
- * Errors: JW_ESRCH, JW_EBADF, JW_ENOTSOCK, JW_EINVAL, JW_EISCONN, JW_ECONNREFUSED, JW_EPROTOTYPE,
- * JW_EAGAIN, JW_ENFILE, JW_ENOMEM. */
+ * A datagram socket sends to the one of this name from now on, its target. If it sent to another,
+ * what waits at it is lost.
+ * Errors: JW_ESRCH, JW_EBADF, JW_ENOTSOCK, JW_EINVAL, JW_EISCONN; for a datagram socket
+ * JW_ECONNREFUSED, and JW_EPERM where the target sends to another; for others JW_ECONNREFUSED,
+ * JW_EPROTOTYPE, JW_EAGAIN, JW_ENFILE, JW_ENOMEM. */
 JW_MUST_USE JW_NONNULL(1)
 int64_t jw_connect(jw_engine *engine, uint32_t pid, uint32_t fd, const void *name, size_t len);
 
 /* Accepts the connection that waits longest at a listener (accept(2)). Answers the new socket's
  * descriptor, the lowest that is free. Needs no memory where a higher one is open.
- * Errors: JW_ESRCH, JW_EBADF, JW_ENOTSOCK, JW_EINVAL, JW_EAGAIN, JW_EMFILE, JW_ENOMEM. */
+ * Errors: JW_ESRCH, JW_EBADF, JW_ENOTSOCK, JW_EOPNOTSUPP for a datagram socket, JW_EINVAL,
+ * JW_EAGAIN, JW_EMFILE, JW_ENOMEM. */
 JW_MUST_USE JW_NONNULL(1)
 int64_t jw_accept(jw_engine *engine, uint32_t pid, uint32_t fd);
 
@@ -362,8 +382,10 @@ int64_t jw_accept(jw_engine *engine, uint32_t pid, uint32_t fd);
  * SCM_RIGHTS; unix(7), cmsg(3)). The bytes are copied once. Memory is requested after all other
  * tests. Answers how many bytes were sent, which is all of them.
  * Errors: JW_ESRCH, JW_EBADF, JW_ENOTSOCK, JW_EINVAL, JW_EMSGSIZE, JW_EBADF for one of fds,
- * JW_ENOTCONN, JW_EPIPE where the peer is gone or the socket's output is closed, JW_ETOOMANYREFS,
- * JW_ENOBUFS, JW_EPIPE where the peer's input is closed, JW_EAGAIN, JW_ENOMEM. */
+ * JW_ENOTCONN, JW_EPIPE where the peer is gone or the socket's output is closed; for a datagram
+ * socket JW_ENOTCONN without a target, JW_ECONNREFUSED where it is gone, JW_EPERM where it sends to
+ * another; JW_ETOOMANYREFS, JW_ENOBUFS, JW_EPIPE where the peer's input is closed, JW_EAGAIN,
+ * JW_ENOMEM. */
 JW_MUST_USE JW_NONNULL(1)
 int64_t jw_send(jw_engine *engine, uint32_t pid, uint32_t fd, const void *bytes, size_t len,
                 const uint32_t *fds, size_t nfds);
@@ -422,8 +444,8 @@ JW_MUST_USE JW_NONNULL(1, 4)
 int64_t jw_next_fd(const jw_engine *engine, uint32_t pid, uint32_t from, uint64_t *ino);
 
 /* Writes what a descriptor is ready for (poll(2)): what its next receive, accept or send finds. So
- * an idle or hung-up socket is not writable, unlike in Linux. A plain file is always readable and
- * writable. Answers 0.
+ * an idle or hung-up socket is not writable, unlike in Linux. A datagram socket is writable where a
+ * send would not be JW_EAGAIN. A plain file is always readable and writable. Answers 0.
  * Errors: JW_ESRCH, JW_EBADF. */
 JW_MUST_USE JW_NONNULL(1, 4)
 int64_t jw_poll(const jw_engine *engine, uint32_t pid, uint32_t fd, struct jw_ready *out);

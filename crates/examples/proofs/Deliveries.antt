@@ -69,6 +69,7 @@ neither false b e = refl
 -- A receive of one byte takes the file of the only message.
 taken : (k : SockType) (bytes : List ℕ) (f user : ℕ) → nat_eq (length bytes) 0 ≡ false → (take_from k (record { bytes = bytes; attached = f ∷ []; user = user } ∷ []) 1).attached ≡ f ∷ []
 taken kind.Seqpacket bytes f user some = refl
+taken kind.Dgram bytes f user some = refl
 taken kind.Stream [] f user some = absurd (false≢true (sym some))
 taken kind.Stream (b ∷ bytes) f user some = let one : min 1 (0 + length (b ∷ bytes)) ≡ 1 = omega arith in ap (λ c. if nat_lt 0 c then f ∷ [] else []) one
 

@@ -13,6 +13,7 @@ use Rattle.examples.specs.declared.kernel.linux.TheConstants.{AF_UNIX, CLOSE, DU
 
 -- The error's number on Linux (errno(3)).
 abbrev pub error_number : Errno → ℕ
+error_number errno.EPERM = 1
 error_number errno.ESRCH = 3
 error_number errno.EBADF = 9
 error_number errno.EAGAIN = 11
@@ -27,6 +28,7 @@ error_number errno.ERANGE = 34
 error_number errno.ENOTSOCK = 88
 error_number errno.EMSGSIZE = 90
 error_number errno.EPROTOTYPE = 91
+error_number errno.EOPNOTSUPP = 95
 error_number errno.EADDRINUSE = 98
 error_number errno.ENOBUFS = 105
 error_number errno.EISCONN = 106
@@ -43,10 +45,12 @@ abbrev pub answer_of : Result ℤ Errno → ℤ
 answer_of (Ok value) = value
 answer_of (Err e) = negative (error_number e)
 
--- The type of this number (socket(2): SOCK_STREAM is 1, SOCK_SEQPACKET is 5).
+-- The type of this number (socket(2): SOCK_STREAM is 1, SOCK_DGRAM 2, SOCK_SEQPACKET 5).
 abbrev pub type_numbered : ℕ → Option SockType
 type_numbered n =
-    if nat_eq n 1 then Some kind.Stream else (if nat_eq n 5 then Some kind.Seqpacket else None)
+    if nat_eq n 1 then Some kind.Stream
+    else (if nat_eq n 2 then Some kind.Dgram else
+    (if nat_eq n 5 then Some kind.Seqpacket else None))
 
 -- A pair of sockets of this type, or that there is none (socketpair(2), ESOCKTNOSUPPORT).
 abbrev pub pair_step : Option SockType → Result Step ℕ

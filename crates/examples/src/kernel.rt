@@ -20,7 +20,7 @@ const SESSION: [(u32, [u32; 4]); 16] = [
     (2, [CLOSE, 2, 0, 0]),
     (2, [CLOSE, 2, 0, 0]),
     (2, [RECVMSG, 1, 1_024, 4]),
-    (1, [SOCKETPAIR, AF_UNIX, 2, 0]),
+    (1, [SOCKETPAIR, AF_UNIX, 3, 0]),
     (1, [SOCKETPAIR, 2, 5, 0]),
     (1, [1_000, 0, 0, 0]),
     (1, [EXIT, 0, 0, 0]),

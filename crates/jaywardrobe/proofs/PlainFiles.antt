@@ -5,13 +5,14 @@ use Rattle.std.specs.List.{list_any, zip}
 use Rattle.std.specs.Ordering.{nat_cmp, eq_by_cmp}
 use Rattle.std.specs.FinMap as map
 use Rattle.af_base.specs.declared.events.Event.TheVariants as event
+use Rattle.af_base.specs.declared.events.SockType.{SockType}
 use Rattle.af_base.specs.declared.events.Step.{Step}
 use Rattle.af_base.specs.declared.events.Step.TheVariants as step
-use Rattle.af_base.specs.Changes.{add_file, add_process, connected, dequeued, file_with, install, install_all, listening, pushed, queued, shut, with_name, with_queue, with_socket}
+use Rattle.af_base.specs.Changes.{add_file, add_process, aimed, connected, dequeued, file_with, install, install_all, listening, pushed, queued, shut, with_name, with_queue, with_socket}
 use Rattle.af_base.specs.Pass.{Purges, emptied, empty_file}
 use Rattle.af_base.specs.Reached.{is_socket}
-use Rattle.af_base.specs.Refusals.{ino_named, ino_on, peer_of, socket_named, socket_on}
-use Rattle.af_base.specs.Steps.{closes_input, closes_output, connected_socket, effect, got_at, idle_socket, spawned, taken_on, with_pair}
+use Rattle.af_base.specs.Refusals.{connected_to, ino_named, ino_on, is_datagram, peer_of, socket_named, socket_on}
+use Rattle.af_base.specs.Steps.{closes_input, closes_output, connected_socket, effect, got_at, idle_socket, paired_socket, spawned, taken_on, with_embryo, with_pair}
 use Rattle.af_base.specs.Unheld.{Settles, file_without}
 use Rattle.af_base.specs.World.{AsSocket, File, Plain, Socket, World}
 use Rattle.af_base.proofs.Lookups.{insert-here, insert-other, same_or_not}
@@ -93,23 +94,39 @@ grows-effect w p (step.Close n) e = grows-same w (effect w p (step.Close n)) ref
 grows-effect w p step.Fork e = grows-same w (effect w p step.Fork) refl refl
 grows-effect w p step.Exit e = grows-same w (effect w p step.Exit) refl refl
 grows-effect w p (step.Pair kind) e =
-    let one = add_file w (AsSocket (connected_socket kind (w.next_ino + 1))) in
+    let one = add_file w (AsSocket (paired_socket kind (w.next_ino + 1))) in
     let two = with_pair w kind in
-    grows-join w two (effect w p (step.Pair kind)) (grows-join w one two (grows-added w (connected_socket kind (w.next_ino + 1))) (grows-added one (connected_socket kind w.next_ino)))
+    grows-join w two (effect w p (step.Pair kind))
+    (grows-join w one two (grows-added w (paired_socket kind (w.next_ino + 1)))
+    (grows-added one (paired_socket kind w.next_ino)))
     (grows-same two (effect w p (step.Pair kind)) refl refl)
 grows-effect w p (step.Socket kind) e =
     let one = add_file w (AsSocket (idle_socket kind)) in
     grows-join w one (effect w p (step.Socket kind)) (grows-added w (idle_socket kind)) (grows-same one (effect w p (step.Socket kind)) refl refl)
 grows-effect w p (step.Bind n name) e = grows-socket w (ino_on w p n) (with_name name)
 grows-effect w p (step.Listen n b) e = grows-socket w (ino_on w p n) (listening b)
-grows-effect w p (step.Connect n name) e =
-    let c = ino_on w p n in
-    let kind = (socket_on w p n).kind in
-    let l = ino_named w kind name in
-    let x = connected_socket (socket_named w kind name).kind c in
-    let made = add_file w (AsSocket x) in
-    let joined = with_socket made c (connected w.next_ino) in
-    grows-join w joined (with_socket joined l (queued w.next_ino)) (grows-join w made joined (grows-added w x) (grows-socket made c (connected w.next_ino))) (grows-socket joined l (queued w.next_ino))
+grows-effect w p (step.Connect n name) e = by (is_datagram kind) where
+  c : ℕ
+  c = ino_on w p n
+
+  kind : SockType
+  kind = (socket_on w p n).kind
+
+  there : ℕ
+  there = ino_named w kind name
+
+  by : (b : Bool) → Grows w
+      (if b then with_socket w c (aimed there) else with_embryo w c there
+      (socket_named w kind name).kind)
+  by true = grows-socket w c (aimed there)
+  by false =
+      let x = connected_socket (socket_named w kind name).kind c in
+      let made = add_file w (AsSocket x) in
+      let joined = with_socket made c (connected w.next_ino) in
+      grows-join w joined (with_socket joined there (queued w.next_ino))
+      (grows-join w made joined (grows-added w x)
+      (grows-socket made c (connected w.next_ino)))
+      (grows-socket joined there (queued w.next_ino))
 grows-effect w p (step.Accept n) e =
     let one = with_socket w (ino_on w p n) dequeued in
     grows-join w one (effect w p (step.Accept n)) (grows-socket w (ino_on w p n) dequeued) (grows-same one (effect w p (step.Accept n)) refl refl)
@@ -123,7 +140,10 @@ grows-effect w p (step.Limit n) e = grows-same w (effect w p (step.Limit n)) ref
 grows-effect w p (step.Shutdown n how) e =
     let own = shut (closes_input how) (closes_output how) in
     let one = with_socket w (ino_on w p n) own in
-    grows-join w one (effect w p (step.Shutdown n how)) (grows-socket w (ino_on w p n) own) (grows-socket one (peer_of (socket_on w p n).state) (shut (closes_output how) (closes_input how)))
+    grows-join w one (effect w p (step.Shutdown n how)) (grows-socket w (ino_on w p n) own)
+    (grows-socket one (connected_to (socket_on w p n).state)
+    (shut (closes_output how) (closes_input how)))
+grows-effect w p (step.Unconnect n) e = grows-socket w (ino_on w p n) (aimed 0)
 
 -- A process more is no file, and its user is none.
 grows-spawned : (w : World) (uid nofile : ℕ) (privileged : Bool) → Grows w (spawned w uid nofile privileged)

@@ -7,7 +7,7 @@ use Rattle.af_base.specs.declared.events.Reply.TheVariants as reply
 use Rattle.af_base.specs.declared.events.Shutdown.{Shutdown}
 use Rattle.af_base.specs.declared.events.Shutdown.TheVariants as how
 use Rattle.af_base.specs.declared.events.SockType.{SockType}
-use Rattle.af_base.specs.declared.events.SockType.TheVariants.{Seqpacket, Stream}
+use Rattle.af_base.specs.declared.events.SockType.TheVariants.{Dgram, Seqpacket, Stream}
 
 -- An error as a call answers it: the negative of this project's number (the library's convention:
 -- errors are below 0).
@@ -35,10 +35,11 @@ code_of reply.Working = pos 1
 code_of (reply.Done n k) = pos 0
 code_of (reply.Refused e) = error_code e
 
--- The type of a socket that C names by a number: 1 is a stream, 2 a seqpacket socket (the header's
--- JW_STREAM, JW_SEQPACKET).
+-- The type of a socket that C names by a number: 1 is a stream, 2 a seqpacket socket, 4 a datagram
+-- socket (the header's JW_STREAM, JW_SEQPACKET, JW_DGRAM).
 abbrev pub type_named : ℕ → Option SockType
-type_named n = if nat_eq n 1 then Some Stream else (if nat_eq n 2 then Some Seqpacket else None)
+type_named n = if nat_eq n 1 then Some Stream
+    else (if nat_eq n 2 then Some Seqpacket else (if nat_eq n 4 then Some Dgram else None))
 
 -- A version as one number: a later version has a larger one (the header's JW_VERSION).
 abbrev pub version_number : ℕ → ℕ → ℕ → ℕ

@@ -6,7 +6,7 @@ use Rattle.af_base.specs.declared.limits.TheConstants.{MAX_BYTES}
 use Rattle.af_base.specs.declared.events.Reply.{Reply}
 use Rattle.af_base.specs.declared.events.Reply.TheVariants as reply
 use Rattle.af_base.specs.declared.events.SockType.{SockType}
-use Rattle.af_base.specs.declared.events.SockType.TheVariants.{Seqpacket, Stream}
+use Rattle.af_base.specs.declared.events.SockType.TheVariants.{Dgram, Seqpacket, Stream}
 use Rattle.af_base.specs.declared.events.State.{State}
 use Rattle.af_base.specs.declared.events.State.TheVariants as state
 use Rattle.af_report.specs.Table.{peer_number}
@@ -68,17 +68,20 @@ IsNextLive w f n =
     ((n ≡ 0) × ((q : ℕ) → f < q → is_live w q ≡ false))
     ⊎ ((f < n) × IsLive w n × ((q : ℕ) → f < q → q < n → is_live w q ≡ false))
 
--- A socket's type as the header numbers it (JW_STREAM, JW_SEQPACKET).
+-- A socket's type as the header numbers it (JW_STREAM, JW_SEQPACKET, JW_DGRAM).
 abbrev pub type_number : SockType → ℕ
 type_number Stream = 1
 type_number Seqpacket = 2
+type_number Dgram = 4
 
--- A socket's state as the header numbers it (JW_IDLE, JW_LISTENING, JW_CONNECTED, JW_HUNG_UP).
+-- A socket's state as the header numbers it (JW_IDLE, JW_LISTENING, JW_CONNECTED, JW_HUNG_UP); a
+-- datagram socket with a target is connected.
 abbrev pub state_number : State → ℕ
 state_number state.Idle = 0
 state_number (state.Listening b) = 1
 state_number (state.Connected q) = 2
 state_number state.HungUp = 3
+state_number (state.Sends q) = 2
 
 -- A file as C sees it: nothing live has kind 0, a plain file kind 3 (JW_NO_FILE, JW_PLAIN).
 abbrev pub c_file : Option FileInfo → CFile

@@ -34,8 +34,10 @@ pub struct CReceived {
 /// tests. Answers how many bytes were sent, which is all of them.
 ///
 /// Errors: JW_ESRCH, JW_EBADF, JW_ENOTSOCK, JW_EINVAL, JW_EMSGSIZE, JW_EBADF for one of
-/// `fds`, JW_ENOTCONN, JW_EPIPE where the peer is gone or the socket's output is closed,
-/// JW_ETOOMANYREFS, JW_ENOBUFS, JW_EPIPE where the peer's input is closed, JW_EAGAIN, JW_ENOMEM.
+/// `fds`, JW_ENOTCONN, JW_EPIPE where the peer is gone or the socket's output is closed; for a
+/// datagram socket JW_ENOTCONN without a target, JW_ECONNREFUSED where it is gone, JW_EPERM where
+/// it sends to another; JW_ETOOMANYREFS, JW_ENOBUFS, JW_EPIPE where the peer's input is closed,
+/// JW_EAGAIN, JW_ENOMEM.
 #[must_use]
 #[unsafe(no_mangle)]
 pub extern "C" fn jw_send(

@@ -10,7 +10,7 @@ use crate::handle::Handle;
 use af_base::errno::Errno;
 use af_base::events::{Event, Reply, Shutdown, SockType, Step};
 use af_base::ids::{Fd, Pid};
-use af_steps::calls::{self, Accept, Bind, Connect, Listen, Pair, Socket};
+use af_steps::calls::{self, Accept, Bind, Connect, Listen, Pair, Socket, Unconnect};
 use std::alloc::Global;
 
 /// The descriptors of two connected sockets.
@@ -23,8 +23,8 @@ pub struct CPair {
     pub second: u32,
 }
 
-/// Makes two connected sockets of type JW_STREAM or JW_SEQPACKET (socketpair(2)), and writes
-/// their descriptors. Answers 0.
+/// Makes two connected sockets of type JW_STREAM, JW_SEQPACKET or JW_DGRAM (socketpair(2)), and
+/// writes their descriptors. Answers 0.
 ///
 /// Errors: JW_EINVAL for another type, before all else; JW_ESRCH, JW_EMFILE, JW_ENFILE,
 /// JW_ENOMEM.
@@ -72,11 +72,12 @@ fn type_named(kind: u32) -> Option<SockType>
     match kind {
         1 => Some(SockType::Stream),
         2 => Some(SockType::Seqpacket),
+        4 => Some(SockType::Dgram),
         _ => None,
     }
 }
 
-/// Makes a socket of type JW_STREAM or JW_SEQPACKET (socket(2)). Answers its descriptor.
+/// Makes a socket of type JW_STREAM, JW_SEQPACKET or JW_DGRAM (socket(2)). Answers its descriptor.
 ///
 /// Errors: JW_EINVAL for another type, before all else; JW_ESRCH, JW_EMFILE, JW_ENFILE,
 /// JW_ENOMEM.
@@ -109,7 +110,8 @@ pub extern "C" fn jw_bind(alloc: Global, engine: &mut Handle, pid: u32, fd: u32,
 
 /// Lets a socket with a name wait for connections, with room for 1 to 128 (listen(2)). Answers 0.
 ///
-/// Errors: JW_ESRCH, JW_EBADF, JW_ENOTSOCK, JW_EINVAL, JW_ENOMEM.
+/// Errors: JW_ESRCH, JW_EBADF, JW_ENOTSOCK, JW_EOPNOTSUPP for a datagram socket, JW_EINVAL,
+/// JW_ENOMEM.
 #[must_use]
 #[unsafe(no_mangle)]
 pub extern "C" fn jw_listen(
@@ -126,8 +128,8 @@ pub extern "C" fn jw_listen(
 }
 
 /// Closes an end of a socket, or both (shutdown(2)): its input for JW_SHUT_RD, its output for
-/// JW_SHUT_WR, both for JW_SHUT_RDWR; and with them the peer's output or input. What waits can
-/// still be received. An end is never opened again. Answers 0.
+/// JW_SHUT_WR, both for JW_SHUT_RDWR; and with them the peer's output or input, but not a
+/// target's. What waits can still be received. An end is never opened again. Answers 0.
 ///
 /// Errors: JW_EINVAL for another number, before all else; JW_ESRCH, JW_EBADF, JW_ENOTSOCK.
 #[must_use]
@@ -162,10 +164,27 @@ fn how_named(how: u32) -> Option<Shutdown>
     }
 }
 
+/// Leaves a datagram socket without a target (connect(2) to AF_UNSPEC). If it had one, what waits
+/// there is lost. Answers 0.
+///
+/// Errors: JW_ESRCH, JW_EBADF, JW_ENOTSOCK, JW_EINVAL for a socket of another type.
+#[must_use]
+#[unsafe(no_mangle)]
+pub extern "C" fn jw_unconnect(alloc: Global, engine: &mut Handle, pid: u32, fd: u32) -> i64
+    ensures { DoesEvent engine.old.shown
+        (Event.Proc pid (Step.Unconnect fd)) result engine.new.shown }
+{
+    call(engine, Unconnect(Pid(pid), Fd(fd)))
+}
+
 /// Connects a socket to the listener of this name, without waiting (connect(2)). The socket is
 /// connected immediately, and the other end waits to be accepted. Answers 0.
 ///
-/// Errors: JW_ESRCH, JW_EBADF, JW_ENOTSOCK, JW_EINVAL, JW_EISCONN, JW_ECONNREFUSED,
+/// A datagram socket sends to the one of this name from now on, its target. If it sent to another,
+/// what waits at it is lost.
+///
+/// Errors: JW_ESRCH, JW_EBADF, JW_ENOTSOCK, JW_EINVAL, JW_EISCONN; for a datagram socket
+/// JW_ECONNREFUSED, and JW_EPERM where the target sends to another; for others JW_ECONNREFUSED,
 /// JW_EPROTOTYPE, JW_EAGAIN, JW_ENFILE, JW_ENOMEM.
 #[must_use]
 #[unsafe(no_mangle)]
@@ -185,7 +204,8 @@ pub extern "C" fn jw_connect(
 /// Accepts the connection that waits longest at a listener (accept(2)). Answers the new socket's
 /// descriptor, the lowest that is free. Needs no memory where a higher one is open.
 ///
-/// Errors: JW_ESRCH, JW_EBADF, JW_ENOTSOCK, JW_EINVAL, JW_EAGAIN, JW_EMFILE, JW_ENOMEM.
+/// Errors: JW_ESRCH, JW_EBADF, JW_ENOTSOCK, JW_EOPNOTSUPP for a datagram socket, JW_EINVAL,
+/// JW_EAGAIN, JW_EMFILE, JW_ENOMEM.
 #[must_use]
 #[unsafe(no_mangle)]
 pub extern "C" fn jw_accept(alloc: Global, engine: &mut Handle, pid: u32, fd: u32) -> i64

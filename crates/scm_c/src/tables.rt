@@ -78,8 +78,8 @@ pub struct CReady {
 }
 
 /// Writes what a descriptor is ready for (poll(2)): what its next receive, accept or send finds. So
-/// an idle or hung-up socket is not writable, unlike in Linux. A plain file is always readable and
-/// writable. Answers 0.
+/// an idle or hung-up socket is not writable, unlike in Linux. A datagram socket is writable where
+/// a send would not be JW_EAGAIN. A plain file is always readable and writable. Answers 0.
 ///
 /// Errors: JW_ESRCH, JW_EBADF.
 #[must_use]

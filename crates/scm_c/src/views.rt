@@ -125,7 +125,8 @@ pub struct CFile {
     pub kind: u32,
     /// The state of the socket (enum jw_state).
     pub state: u32,
-    /// The inode number of the peer of a connected socket, else 0.
+    /// The inode number of the peer of a connected socket, or of the target, live or freed, of a
+    /// datagram socket; else 0.
     pub peer: u64,
     /// How many messages the socket can receive.
     pub messages: u64,
@@ -191,10 +192,11 @@ fn type_number(kind: SockType) -> u32
     match kind {
         SockType::Stream => 1,
         SockType::Seqpacket => 2,
+        SockType::Dgram => 4,
     }
 }
 
-/// Returns the number of a socket's state.
+/// Returns the number of a socket's state. A datagram socket with a target is connected.
 fn state_number(state: State) -> u32
     ensures { result ≡ state_number state }
 {
@@ -202,16 +204,17 @@ fn state_number(state: State) -> u32
         State::Idle => 0,
         State::Listening(_) => 1,
         State::Connected(_) => 2,
+        State::Sends(_) => 2,
         State::HungUp => 3,
     }
 }
 
-/// Returns the peer that a socket of this state has, or 0.
+/// Returns the peer or the target that a socket of this state has, or 0.
 fn peer_number(state: State) -> u64
     ensures { result ≡ peer_number state }
 {
     match state {
-        State::Connected(peer) => peer.0,
+        State::Connected(peer) | State::Sends(peer) => peer.0,
         State::Idle | State::Listening(_) | State::HungUp => 0,
     }
 }

@@ -84,6 +84,10 @@ pub const JW_EBUSY: i64 = 18;
 pub const JW_EIDLE: i64 = 19;
 /// The limit on descriptors is too large.
 pub const JW_ERANGE: i64 = 20;
+/// The datagram socket sends to another one, and takes from that one alone.
+pub const JW_EPERM: i64 = 21;
+/// Sockets of this type cannot do that.
+pub const JW_EOPNOTSUPP: i64 = 22;
 /// The handle has no engine: none was made, or it was freed.
 pub const JW_ENOENGINE: i64 = 100;
 /// A kept number is not its recount: proved never to be answered.
@@ -112,7 +116,7 @@ pub const JW_MAX_NAME: u32 = 107;
 /// The largest budget of a slice, in units. The smallest is 1.
 pub const JW_MAX_BUDGET: u32 = 65536;
 
-// Kinds of files. Two of them are also the types of a new socket.
+// Kinds of files. Three of them are also the types of a new socket.
 
 /// No live file has this number.
 pub const JW_NO_FILE: u32 = 0;
@@ -122,6 +126,8 @@ pub const JW_STREAM: u32 = 1;
 pub const JW_SEQPACKET: u32 = 2;
 /// A plain file.
 pub const JW_PLAIN: u32 = 3;
+/// SOCK_DGRAM: sends to a target, keeps the borders between messages.
+pub const JW_DGRAM: u32 = 4;
 
 // States of sockets.
 
@@ -129,7 +135,7 @@ pub const JW_PLAIN: u32 = 3;
 pub const JW_IDLE: u32 = 0;
 /// Waits for connections.
 pub const JW_LISTENING: u32 = 1;
-/// Is connected to a live peer.
+/// Is connected to a live peer, or has a target, live or freed.
 pub const JW_CONNECTED: u32 = 2;
 /// Was connected; the peer is gone.
 pub const JW_HUNG_UP: u32 = 3;
@@ -196,7 +202,8 @@ pub struct jw_file {
     pub kind: u32,
     /// The state of the socket (enum jw_state).
     pub state: u32,
-    /// The inode number of the peer of a connected socket, else 0.
+    /// The inode number of the peer of a connected socket, or of the target, live or freed, of a
+    /// datagram socket; else 0.
     pub peer: u64,
     /// How many messages the socket can receive.
     pub messages: u64,
@@ -265,13 +272,14 @@ unsafe extern "C" {
     ///
     /// Errors: JW_ESRCH.
     pub fn jw_exit(engine: *mut jw_engine, pid: u32) -> i64;
-    /// Makes two connected sockets of type JW_STREAM or JW_SEQPACKET (socketpair(2)), and writes
-    /// their descriptors. Answers 0.
+    /// Makes two connected sockets of type JW_STREAM, JW_SEQPACKET or JW_DGRAM (socketpair(2)), and
+    /// writes their descriptors. Answers 0.
     ///
     /// Errors: JW_EINVAL for another type, before all else; JW_ESRCH, JW_EMFILE, JW_ENFILE,
     /// JW_ENOMEM.
     pub fn jw_pair(engine: *mut jw_engine, pid: u32, kind: u32, out: *mut jw_pair) -> i64;
-    /// Makes a socket of type JW_STREAM or JW_SEQPACKET (socket(2)). Answers its descriptor.
+    /// Makes a socket of type JW_STREAM, JW_SEQPACKET or JW_DGRAM (socket(2)). Answers its
+    /// descriptor.
     ///
     /// Errors: JW_EINVAL for another type, before all else; JW_ESRCH, JW_EMFILE, JW_ENFILE,
     /// JW_ENOMEM.
@@ -284,18 +292,28 @@ unsafe extern "C" {
     /// Lets a socket with a name wait for connections, with room for 1 to 128 (listen(2)). Answers
     /// 0.
     ///
-    /// Errors: JW_ESRCH, JW_EBADF, JW_ENOTSOCK, JW_EINVAL, JW_ENOMEM.
+    /// Errors: JW_ESRCH, JW_EBADF, JW_ENOTSOCK, JW_EOPNOTSUPP for a datagram socket, JW_EINVAL,
+    /// JW_ENOMEM.
     pub fn jw_listen(engine: *mut jw_engine, pid: u32, fd: u32, backlog: u32) -> i64;
     /// Closes an end of a socket, or both (shutdown(2)): its input for JW_SHUT_RD, its output for
-    /// JW_SHUT_WR, both for JW_SHUT_RDWR; and with them the peer's output or input. What waits can
-    /// still be received. An end is never opened again. Answers 0.
+    /// JW_SHUT_WR, both for JW_SHUT_RDWR; and with them the peer's output or input, but not a
+    /// target's. What waits can still be received. An end is never opened again. Answers 0.
     ///
     /// Errors: JW_EINVAL for another number, before all else; JW_ESRCH, JW_EBADF, JW_ENOTSOCK.
     pub fn jw_shutdown(engine: *mut jw_engine, pid: u32, fd: u32, how: u32) -> i64;
+    /// Leaves a datagram socket without a target (connect(2) to AF_UNSPEC). If it had one, what
+    /// waits there is lost. Answers 0.
+    ///
+    /// Errors: JW_ESRCH, JW_EBADF, JW_ENOTSOCK, JW_EINVAL for a socket of another type.
+    pub fn jw_unconnect(engine: *mut jw_engine, pid: u32, fd: u32) -> i64;
     /// Connects a socket to the listener of this name, without waiting (connect(2)). The socket is
     /// connected immediately, and the other end waits to be accepted. Answers 0.
     ///
-    /// Errors: JW_ESRCH, JW_EBADF, JW_ENOTSOCK, JW_EINVAL, JW_EISCONN, JW_ECONNREFUSED,
+    /// A datagram socket sends to the one of this name from now on, its target. If it sent to
+    /// another, what waits at it is lost.
+    ///
+    /// Errors: JW_ESRCH, JW_EBADF, JW_ENOTSOCK, JW_EINVAL, JW_EISCONN; for a datagram socket
+    /// JW_ECONNREFUSED, and JW_EPERM where the target sends to another; for others JW_ECONNREFUSED,
     /// JW_EPROTOTYPE, JW_EAGAIN, JW_ENFILE, JW_ENOMEM.
     pub fn jw_connect(
         engine: *mut jw_engine,
@@ -307,16 +325,18 @@ unsafe extern "C" {
     /// Accepts the connection that waits longest at a listener (accept(2)). Answers the new
     /// socket's descriptor, the lowest that is free. Needs no memory where a higher one is open.
     ///
-    /// Errors: JW_ESRCH, JW_EBADF, JW_ENOTSOCK, JW_EINVAL, JW_EAGAIN, JW_EMFILE, JW_ENOMEM.
+    /// Errors: JW_ESRCH, JW_EBADF, JW_ENOTSOCK, JW_EOPNOTSUPP for a datagram socket, JW_EINVAL,
+    /// JW_EAGAIN, JW_EMFILE, JW_ENOMEM.
     pub fn jw_accept(engine: *mut jw_engine, pid: u32, fd: u32) -> i64;
     /// Sends 1 to 65536 bytes, and with them the files of at most 253 descriptors (sendmsg(2) with
     /// SCM_RIGHTS; unix(7), cmsg(3)). The bytes are copied once. Memory is requested after all
     /// other tests. Answers how many bytes were sent, which is all of them.
     ///
     /// Errors: JW_ESRCH, JW_EBADF, JW_ENOTSOCK, JW_EINVAL, JW_EMSGSIZE, JW_EBADF for one of fds,
-    /// JW_ENOTCONN, JW_EPIPE where the peer is gone or the socket's output is closed,
-    /// JW_ETOOMANYREFS, JW_ENOBUFS, JW_EPIPE where the peer's input is closed, JW_EAGAIN,
-    /// JW_ENOMEM.
+    /// JW_ENOTCONN, JW_EPIPE where the peer is gone or the socket's output is closed; for a
+    /// datagram socket JW_ENOTCONN without a target, JW_ECONNREFUSED where it is gone, JW_EPERM
+    /// where it sends to another; JW_ETOOMANYREFS, JW_ENOBUFS, JW_EPIPE where the peer's input is
+    /// closed, JW_EAGAIN, JW_ENOMEM.
     pub fn jw_send(
         engine: *mut jw_engine,
         pid: u32,
@@ -390,8 +410,9 @@ unsafe extern "C" {
     /// Errors: JW_EBADF; no descriptor is open from there on, or there is no such process.
     pub fn jw_next_fd(engine: *mut jw_engine, pid: u32, from: u32, ino: *mut u64) -> i64;
     /// Writes what a descriptor is ready for (poll(2)): what its next receive, accept or send
-    /// finds. So an idle or hung-up socket is not writable, unlike in Linux. A plain file is always
-    /// readable and writable. Answers 0.
+    /// finds. So an idle or hung-up socket is not writable, unlike in Linux. A datagram socket is
+    /// writable where a send would not be JW_EAGAIN. A plain file is always readable and writable.
+    /// Answers 0.
     ///
     /// Errors: JW_ESRCH, JW_EBADF.
     pub fn jw_poll(engine: *mut jw_engine, pid: u32, fd: u32, out: *mut jw_ready) -> i64;
@@ -483,6 +504,8 @@ pub const fn jw_strerror(answer: i64) -> &'static str {
         JW_EBUSY => "EBUSY",
         JW_EIDLE => "EIDLE",
         JW_ERANGE => "ERANGE",
+        JW_EPERM => "EPERM",
+        JW_EOPNOTSUPP => "EOPNOTSUPP",
         JW_ENOENGINE => "ENOENGINE",
         JW_EDIFFERS => "EDIFFERS",
         _ => "unknown",

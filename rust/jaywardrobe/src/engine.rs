@@ -177,13 +177,14 @@ impl Engine {
     ///
     /// # Errors
     ///
-    /// ESRCH, EBADF, ENOTSOCK, EINVAL, ENOMEM.
+    /// ESRCH, EBADF, ENOTSOCK, EOPNOTSUPP for a datagram socket, EINVAL, ENOMEM.
     pub fn listen(&mut self, by: Pid, on: Fd, backlog: u32) -> Result<(), Errno> {
         self.handle.listen(by.0, on.0, backlog).map(drop)
     }
 
     /// Connects a socket to the listener of this name (connect(2)). The socket is connected
-    /// immediately, and the other end waits to be accepted.
+    /// immediately, and the other end waits to be accepted. A datagram socket sends to the one of
+    /// this name from now on, its target; if it sent to another, what waits at it is lost.
     ///
     /// ```
     /// use jaywardrobe::{Engine, Errno, SockType};
@@ -204,7 +205,8 @@ impl Engine {
     ///
     /// # Errors
     ///
-    /// ESRCH, EBADF, ENOTSOCK, EINVAL, EISCONN, ECONNREFUSED, EPROTOTYPE, EAGAIN, ENFILE, ENOMEM.
+    /// ESRCH, EBADF, ENOTSOCK, EINVAL, EISCONN; for a datagram socket ECONNREFUSED, and EPERM where
+    /// the target sends to another; for others ECONNREFUSED, EPROTOTYPE, EAGAIN, ENFILE, ENOMEM.
     pub fn connect(&mut self, by: Pid, on: Fd, name: impl AsRef<[u8]>) -> Result<(), Errno> {
         self.handle.connect(by.0, on.0, name.as_ref()).map(drop)
     }
@@ -213,7 +215,7 @@ impl Engine {
     ///
     /// # Errors
     ///
-    /// ESRCH, EBADF, ENOTSOCK, EINVAL, EAGAIN, EMFILE, ENOMEM.
+    /// ESRCH, EBADF, ENOTSOCK, EOPNOTSUPP for a datagram socket, EINVAL, EAGAIN, EMFILE, ENOMEM.
     pub fn accept(&mut self, by: Pid, on: Fd) -> Result<Fd, Errno> {
         self.handle.accept(by.0, on.0).map(to_fd)
     }
@@ -248,6 +250,33 @@ impl Engine {
         let how = code_of_ends(how);
         self.handle.shutdown(by.0, on.0, how).map(drop)
     }
+
+    /// Leaves a datagram socket without a target (connect(2) to AF_UNSPEC). If it had one, what
+    /// waits at it is lost.
+    ///
+    /// ```
+    /// use jaywardrobe::{Engine, Errno, SockType};
+    ///
+    /// let mut engine = Engine::new()?;
+    /// let pid = engine.spawn(1000, 16, false)?;
+    /// let log = engine.socket(pid, SockType::Dgram)?;
+    /// engine.bind(pid, log, "log")?;
+    ///
+    /// let here = engine.socket(pid, SockType::Dgram)?;
+    /// engine.connect(pid, here, "log")?;
+    /// assert_eq!(engine.send(pid, here, "hello", &[])?, 5);
+    /// engine.unconnect(pid, here)?;
+    /// assert_eq!(engine.send(pid, here, "more", &[]), Err(Errno::ENOTCONN));
+    /// assert!(engine.poll(pid, log)?.readable);
+    /// # Ok::<(), Errno>(())
+    /// ```
+    ///
+    /// # Errors
+    ///
+    /// ESRCH, EBADF, ENOTSOCK, EINVAL for a socket of another type.
+    pub fn unconnect(&mut self, by: Pid, on: Fd) -> Result<(), Errno> {
+        self.handle.unconnect(by.0, on.0).map(drop)
+    }
 }
 
 /// Messages.
@@ -259,8 +288,9 @@ impl Engine {
     /// # Errors
     ///
     /// ESRCH, EBADF, ENOTSOCK, EINVAL, EMSGSIZE, EBADF for an attached descriptor, ENOTCONN, EPIPE
-    /// where the peer is gone or the output is closed, ETOOMANYREFS, ENOBUFS, EPIPE where the
-    /// peer's input is closed, EAGAIN, ENOMEM.
+    /// where the peer is gone or the output is closed; for a datagram socket ENOTCONN without a
+    /// target, ECONNREFUSED where it is gone, EPERM where it sends to another; ETOOMANYREFS,
+    /// ENOBUFS, EPIPE where the peer's input is closed, EAGAIN, ENOMEM.
     pub fn send(
         &mut self,
         by: Pid,

@@ -67,7 +67,7 @@ errors! {
     EMSGSIZE, JW_EMSGSIZE, Some(90), "the message has too many bytes";
     ETOOMANYREFS, JW_ETOOMANYREFS, Some(109), "the user has too many descriptors in flight";
     ENOBUFS, JW_ENOBUFS, Some(105), "all users together have too many descriptors in flight";
-    ENOTCONN, JW_ENOTCONN, Some(107), "the socket was never connected";
+    ENOTCONN, JW_ENOTCONN, Some(107), "the socket is connected to none";
     EPIPE, JW_EPIPE, Some(32), "the peer is gone, or an end on the way is closed";
     EISCONN, JW_EISCONN, Some(106), "the socket is connected already";
     EADDRINUSE, JW_EADDRINUSE, Some(98), "a live socket has this name";
@@ -77,6 +77,8 @@ errors! {
     ENOMEM, JW_ENOMEM, Some(12), "memory ran out";
     EBUSY, JW_EBUSY, Some(16), "a pass runs";
     ERANGE, JW_ERANGE, Some(34), "the limit on descriptors is too large";
+    EPERM, JW_EPERM, Some(1), "the datagram socket sends to another, and takes from that one alone";
+    EOPNOTSUPP, JW_EOPNOTSUPP, Some(95), "sockets of this type cannot do that";
     EIDLE, JW_EIDLE, None, "no pass runs";
     ENOENGINE, JW_ENOENGINE, None, "the handle has no engine, which no Engine lets happen";
     EDIFFERS, JW_EDIFFERS, None, "a kept number is not its recount, which is proved not to happen";

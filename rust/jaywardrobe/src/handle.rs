@@ -127,6 +127,7 @@ impl Handle {
         listen = jw_listen(pid: u32, fd: u32, backlog: u32);
         accept = jw_accept(pid: u32, fd: u32);
         shutdown = jw_shutdown(pid: u32, fd: u32, how: u32);
+        unconnect = jw_unconnect(pid: u32, fd: u32);
         next_pid = jw_next_pid();
         tell_released = jw_tell_released();
         tell_changed = jw_tell_changed();

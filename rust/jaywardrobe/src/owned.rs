@@ -218,6 +218,11 @@ impl<T> Owned<T> {
         self.engine.shutdown(by, on, how)
     }
 
+    /// Leaves a datagram socket without a target: see [`Engine::unconnect`].
+    pub fn unconnect(&mut self, by: Pid, on: Fd) -> Result<(), Errno> {
+        self.engine.unconnect(by, on)
+    }
+
     /// Sends bytes and files: see [`Engine::send`].
     pub fn send(
         &mut self,

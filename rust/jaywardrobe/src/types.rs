@@ -43,6 +43,8 @@ pub enum SockType {
     Stream,
     /// SOCK_SEQPACKET: keeps the borders between messages.
     Seqpacket,
+    /// SOCK_DGRAM: sends to a target, and keeps the borders between messages.
+    Dgram,
 }
 
 impl SockType {
@@ -51,6 +53,7 @@ impl SockType {
         match self {
             SockType::Stream => sys::JW_STREAM,
             SockType::Seqpacket => sys::JW_SEQPACKET,
+            SockType::Dgram => sys::JW_DGRAM,
         }
     }
 }
@@ -71,7 +74,8 @@ pub enum State {
     Idle,
     /// The socket waits for connections.
     Listening,
-    /// The socket is connected to this live peer.
+    /// The socket is connected to this live peer. A datagram socket sends to this target, which may
+    /// be freed.
     Connected(Ino),
     /// The socket was connected, and the peer is gone.
     HungUp,
@@ -102,6 +106,7 @@ impl File {
             sys::JW_PLAIN => return Some(File::Plain),
             sys::JW_STREAM => SockType::Stream,
             sys::JW_SEQPACKET => SockType::Seqpacket,
+            sys::JW_DGRAM => SockType::Dgram,
             _ => return None,
         };
         let state = match it.state {
@@ -156,7 +161,8 @@ pub struct Ready {
     /// Whether a receive of a byte, or an accept, has something to give, or the end to tell
     /// (POLLIN).
     pub readable: bool,
-    /// Whether a send of a byte without descriptors has room (POLLOUT).
+    /// Whether a send of a byte without descriptors has room (POLLOUT), or, of a datagram socket,
+    /// is refused for another reason.
     pub writable: bool,
     /// Whether the peer is gone, or both ends of the socket are closed (POLLHUP).
     pub hung_up: bool,

@@ -62,6 +62,7 @@ fn a_stream_has_no_borders_and_a_packet_has() -> Result<(), Errno> {
     for (kind, first, second) in [
         (SockType::Stream, &b"abc"[..], &b"d"[..]),
         (SockType::Seqpacket, &b"ab"[..], &b"cd"[..]),
+        (SockType::Dgram, &b"ab"[..], &b"cd"[..]),
     ] {
         let (mut engine, pid) = engine_with_process()?;
         let (here, there) = engine.pair(pid, kind)?;
@@ -249,6 +250,63 @@ fn a_listener_that_is_shut_refuses_connections() -> Result<(), Errno> {
     assert_eq!(engine.accept(pid, listener), Err(Errno::EAGAIN));
     assert_eq!(engine.send(pid, early, "x", &[])?, 1);
     assert!(engine.poll(pid, server)?.readable);
+    Ok(())
+}
+
+#[test]
+fn a_datagram_socket_sends_to_its_target_until_it_is_freed() -> Result<(), Errno> {
+    let (mut engine, pid) = engine_with_process()?;
+    let log = engine.socket(pid, SockType::Dgram)?;
+    let here = engine.socket(pid, SockType::Dgram)?;
+    engine.bind(pid, log, "log")?;
+    assert_eq!(readiness(&engine, pid, here)?, (false, true, false));
+    engine.connect(pid, here, "log")?;
+    let target = ino(&engine, pid, log);
+    let sends = File::Socket {
+        kind: SockType::Dgram,
+        state: State::Connected(target),
+        messages: 0,
+        embryos: 0,
+    };
+    assert_eq!(engine.file(ino(&engine, pid, here)), Some(sends));
+    for _ in 0..jaywardrobe::MAX_MESSAGES {
+        engine.send(pid, here, "x", &[])?;
+    }
+    assert_eq!(engine.send(pid, here, "x", &[]), Err(Errno::EAGAIN));
+    assert_eq!(readiness(&engine, pid, here)?, (false, false, false));
+    engine.close(pid, log)?;
+    for _ in 0..2 {
+        assert_eq!(engine.send(pid, here, "x", &[]), Err(Errno::ECONNREFUSED));
+    }
+    assert_eq!(engine.file(ino(&engine, pid, here)), Some(sends));
+    assert_eq!(readiness(&engine, pid, here)?, (false, true, false));
+    Ok(())
+}
+
+#[test]
+fn a_datagram_socket_that_turns_to_another_loses_what_waits() -> Result<(), Errno> {
+    let (mut engine, pid) = engine_with_process()?;
+    let (here, there) = engine.pair(pid, SockType::Dgram)?;
+    engine.bind(pid, here, "here")?;
+    engine.send(pid, there, "x", &[there])?;
+    let other = engine.socket(pid, SockType::Dgram)?;
+    assert_eq!(engine.connect(pid, other, "here"), Err(Errno::EPERM));
+    engine.unconnect(pid, here)?;
+    assert_eq!(engine.charged(1000), 0);
+    engine.connect(pid, other, "here")?;
+    engine.send(pid, other, "y", &[])?;
+    // It had no target, so nothing is lost.
+    engine.connect(pid, here, "here")?;
+    let mut bytes = [0; 8];
+    let got = engine.recv(pid, here, &mut bytes, &mut [])?;
+    assert_eq!(
+        got.map(|got| bytes[..got.bytes].to_vec()),
+        Some(b"y".to_vec())
+    );
+    assert_eq!(
+        engine.recv(pid, here, &mut bytes, &mut []),
+        Err(Errno::EAGAIN)
+    );
     Ok(())
 }
 

@@ -118,6 +118,24 @@ fn connections_need_a_listener_of_the_same_type() -> Result<(), Errno> {
 }
 
 #[test]
+fn datagram_sockets_have_no_listeners_and_others_no_targets() -> Result<(), Errno> {
+    let (mut engine, pid) = engine_with_process()?;
+    let mail = engine.socket(pid, SockType::Dgram)?;
+    engine.bind(pid, mail, "mail")?;
+    assert_eq!(engine.listen(pid, mail, 1), Err(Errno::EOPNOTSUPP));
+    assert_eq!(engine.accept(pid, mail), Err(Errno::EOPNOTSUPP));
+    assert_eq!(engine.send(pid, mail, "x", &[]), Err(Errno::ENOTCONN));
+    let stream = engine.socket(pid, SockType::Stream)?;
+    // The names are of another set.
+    engine.bind(pid, stream, "mail")?;
+    engine.listen(pid, stream, 1)?;
+    assert_eq!(engine.unconnect(pid, stream), Err(Errno::EINVAL));
+    assert_eq!(engine.unconnect(pid, Fd(9)), Err(Errno::EBADF));
+    assert_eq!(engine.connect(pid, mail, "none"), Err(Errno::ECONNREFUSED));
+    Ok(())
+}
+
+#[test]
 fn one_pass_runs_at_a_time() -> Result<(), Errno> {
     let (mut engine, _) = engine_with_process()?;
     assert_eq!(engine.slice(1), Err(Errno::EIDLE));

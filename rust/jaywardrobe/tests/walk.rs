@@ -70,7 +70,8 @@ impl Walk {
     }
 
     fn kind(&mut self) -> SockType {
-        [SockType::Stream, SockType::Seqpacket][self.random.below(2)]
+        let kinds = [SockType::Stream, SockType::Seqpacket, SockType::Dgram];
+        kinds[self.random.below(kinds.len())]
     }
 
     fn name(&mut self) -> &'static str {
@@ -174,7 +175,10 @@ impl Walk {
         let on = self.engine.socket(by, kind)?;
         let met = if self.random.below(3) == 0 {
             let bound = self.engine.bind(by, on, name);
-            bound.and_then(|()| self.engine.listen(by, on, 2))
+            match kind {
+                SockType::Dgram => bound,
+                _ => bound.and_then(|()| self.engine.listen(by, on, 2)),
+            }
         } else {
             self.engine.connect(by, on, name)
         };
@@ -186,6 +190,9 @@ impl Walk {
 
     fn shutdown(&mut self, by: Pid) -> Result<(), Errno> {
         let on = self.socket(by);
+        if self.random.below(3) == 0 {
+            return self.engine.unconnect(by, on);
+        }
         let ends = [Shutdown::Read, Shutdown::Write, Shutdown::Both];
         let how = ends[self.random.below(ends.len())];
         self.engine.shutdown(by, on, how)?;
@@ -258,10 +265,11 @@ fn is_listener(file: Option<File>) -> bool {
     matches!(file, Some(File::Socket { state, .. }) if state == listening)
 }
 
-/// Asserts that the peer of a connected socket is connected to it.
+/// Asserts that the peer of a connected socket is connected to it. A datagram socket has none.
 fn compare_peers(engine: &Engine, ino: Ino) {
     let peer_of = |ino| match engine.file(ino) {
         Some(File::Socket {
+            kind: SockType::Stream | SockType::Seqpacket,
             state: State::Connected(peer),
             ..
         }) => Some(peer),

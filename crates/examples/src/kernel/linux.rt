@@ -37,12 +37,13 @@ pub const EAFNOSUPPORT: i64 = 97;
 /// There is no such type of socket (errno(3)).
 pub const ESOCKTNOSUPPORT: i64 = 94;
 
-/// Returns the type of this number (socket(2): SOCK_STREAM, SOCK_SEQPACKET).
+/// Returns the type of this number (socket(2): SOCK_STREAM, SOCK_DGRAM, SOCK_SEQPACKET).
 pub fn type_numbered(number: u32) -> Option<SockType>
     ensures { result ≡ type_numbered number }
 {
     match number {
         1 => Some(SockType::Stream),
+        2 => Some(SockType::Dgram),
         5 => Some(SockType::Seqpacket),
         _ => None,
     }
@@ -70,6 +71,7 @@ fn error_number(error: Errno) -> i64
     ensures { result ≡ pos (error_number error) }
 {
     match error {
+        Errno::EPERM => 1,
         Errno::ESRCH => 3,
         Errno::EBADF => 9,
         Errno::EAGAIN => 11,
@@ -83,6 +85,7 @@ fn error_number(error: Errno) -> i64
         Errno::ENOTSOCK => 88,
         Errno::EMSGSIZE => 90,
         Errno::EPROTOTYPE => 91,
+        Errno::EOPNOTSUPP => 95,
         Errno::EADDRINUSE => 98,
         Errno::ENOBUFS => 105,
         Errno::EISCONN => 106,
