@@ -80,6 +80,7 @@ void settle(bool is_collected) {
         if (is_collected) note_leak(file);
         drop_queue(file);
         if (is_collected) refresh(file); /* It had no messages, so its peer sees no reset. */
+        if (file->kind == JW_DGRAM) wake(EVERYONE); /* Those that send to it. */
         free_file(file);
     }
     int64_t changed = jw_changed(&engine, inos, JW_MAX_FILES);

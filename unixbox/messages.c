@@ -160,17 +160,31 @@ static long send_part(struct call *call, struct file *peer) {
         result = record(call->pid, answer, "send %u *%zu%s", call->fd, message.length,
                         fds_text(message.fds, message.fd_count));
     }
-    if (result >= 0) note_message(peer, &message.user, message.length);
-    if (result != -EAGAIN || message.fd_count > 0 || !has_room(peer, call->file)) return result;
-    hold_message(peer, &message.user, message.bytes, message.length);
+    bool is_held = result == -EAGAIN && message.fd_count == 0 && has_room(peer, call->file);
+    if (result < 0 && !is_held) return result;
+    struct parcel *parcel =
+        is_held ? hold_message(peer, &message.user, message.bytes, message.length)
+                : note_message(peer, &message.user, message.length);
+    parcel->from = call->file->own;
     return (long)message.length;
+}
+
+/* Returns what refuses a send to a name, or 0. Seqpackets ignore it. The layer sends datagrams to
+ * the target of their socket alone. */
+static long refusal_of_name(const struct call *call, const struct file *peer) {
+    const struct msghdr *header = &message.header;
+    uint64_t at = message.at != 0 ? (uint64_t)header->msg_name : call->args[4];
+    if (header->msg_namelen == 0 || call->file->kind == JW_SEQPACKET) return 0;
+    if (call->file->kind == JW_STREAM) return peer != NULL ? -EISCONN : -EOPNOTSUPP;
+    return names_target(call, at, header->msg_namelen) ? 0 : -EOPNOTSUPP;
 }
 
 /* Returns what refuses a send before the layer is asked, or 0. */
 long refusal_of_send(struct call *call, const struct file *peer) {
     bool is_stream = call->file->kind == JW_STREAM, has_waited = call->waits_for == call->file->ino;
     if ((message.flags & MSG_OOB) && !(options.oob && is_stream)) return -EOPNOTSUPP;
-    if (message.header.msg_namelen > 0 && is_stream) return peer != NULL ? -EISCONN : -EOPNOTSUPP;
+    long result = refusal_of_name(call, peer);
+    if (result < 0) return result;
     if (message.total > JW_MAX_BYTES && !is_stream) return -EMSGSIZE;
     if (!is_stream && take_reset(call->file)) return -ECONNRESET;
     call->raises_sigpipe = is_stream && !has_waited && !(message.flags & MSG_NOSIGNAL);
@@ -200,7 +214,9 @@ long send_bytes(struct call *call) {
     struct file *peer = peer_of(call->file);
     if (message.fd_count + message.total == 0) return send_nothing(call);
     long result = send_part(call, peer);
-    if (result == -EAGAIN) return wait_for(call, message.flags, call->file->ino);
+    bool is_datagram = call->file->kind == JW_DGRAM;
+    if (result == -EAGAIN) /* Of a datagram socket, no other may be the target's peer. */
+        return wait_for(call, message.flags, is_datagram ? EVERYONE : call->file->ino);
     if (result < 0) return result;
     for (size_t i = 0; i < message.fd_count; i++)
         file_of(call->process, message.fds[i])->sender = call->process->status;

@@ -13,7 +13,6 @@ static const char usage[] =
     "  --verify              after each call recount the references to each file\n"
     "  --check               after each call let the layer check all that it keeps\n"
     "  --quiet               say nothing at the end where nothing is wrong\n"
-    "  --dgram               serve pairs of datagram sockets as seqpackets\n"
     "  --oob                 ignore MSG_OOB on streams\n"
     "  --procnet             show sockets in the program's /proc/net/unix\n\n"
     "The status is the program's, or 128 and the number of the signal that ended it. It is 125\n"
@@ -23,9 +22,9 @@ static const struct option names[] = {
     {"gc", required_argument, NULL, 'g'}, {"budget", required_argument, NULL, 'b'},
     {"script", required_argument, NULL, 's'}, {"graph", required_argument, NULL, 'p'},
     {"verify", no_argument, &options.verifies, 1}, {"check", no_argument, &options.checks, 1},
-    {"quiet", no_argument, &options.is_quiet, 1}, {"dgram", no_argument, &options.datagrams, 1},
-    {"oob", no_argument, &options.oob, 1}, {"procnet", no_argument, &options.networks, 1},
-    {"help", no_argument, NULL, 'h'}, {NULL, 0, NULL, 0}};
+    {"quiet", no_argument, &options.is_quiet, 1}, {"oob", no_argument, &options.oob, 1},
+    {"procnet", no_argument, &options.networks, 1}, {"help", no_argument, NULL, 'h'},
+    {NULL, 0, NULL, 0}};
 
 struct options options = {.collector = COLLECT_SLICES, .budget = 4};
 

@@ -3,6 +3,8 @@
  * that one is writable exactly if the peer's has fewer bytes than the layer's queue has room for. */
 #include "unixbox.h"
 
+enum { FEW_DATAGRAMS = 8 }; /* They do not fill a placeholder. */
+
 struct file_list files[FILE_SLOTS];
 static struct file_list stale = LIST_HEAD_INITIALIZER(stale);
 static bool tells_edges; /* A program may see each message come, not only whether there is one. */
@@ -97,8 +99,19 @@ void touch(struct file *file) {
     LIST_INSERT_HEAD(&stale, file, stale_entries);
 }
 
-static void add_tokens(struct file *file, const struct file *peer, uint64_t count) {
-    for (; count > 0 && send(peer->host, "", 1, MSG_DONTWAIT | MSG_NOSIGNAL) == 1; count--)
+/* Adds bytes to a placeholder. They come from the peer's; to a datagram socket's from the one to
+ * which it is connected, or else from itself. */
+static void add_tokens(struct file *file, uint64_t peer, uint64_t count) {
+    struct sockaddr_un name, *to = NULL;
+    socklen_t length = 0;
+    if (file->kind == JW_DGRAM) {
+        peer = file->target != 0 ? file->target : file->ino;
+        length = sizeof name;
+        getsockname(file->host, (struct sockaddr *)(to = &name), &length);
+    }
+    const struct file *from = peer != 0 ? file_at(peer) : NULL;
+    while (from != NULL && count-- > 0 && sendto(from->host, "", 1, MSG_DONTWAIT | MSG_NOSIGNAL,
+                                                 (struct sockaddr *)to, length) == 1)
         file->tokens++;
 }
 
@@ -113,19 +126,34 @@ static void drop_tokens(struct file *file, uint64_t count) {
     }
 }
 
+/* Connects the placeholder of a datagram socket as the socket is, or to none. Where this loses what
+ * waits at the socket, the kernel loses the bytes. */
+void turn_placeholder(struct file *file, const struct file *target, bool loses) {
+    struct sockaddr_un name = {.sun_family = AF_UNSPEC};
+    socklen_t length = sizeof name;
+    if (target != NULL) getsockname(target->host, (struct sockaddr *)&name, &length);
+    connect(file->host, (struct sockaddr *)&name, length);
+    file->target = target != NULL ? target->ino : 0;
+    if (loses) drop_queue(file);
+    if (loses) file->tokens = file->messages = 0;
+    touch(file);
+}
+
 /* Makes a placeholder ready for what its socket is ready for. There are bytes in it where there are
  * messages, if only one that is held back, and as many as fill it where the queue is full. Bytes of
- * received messages may stay meanwhile. Where edges are told, each new message adds a byte. */
+ * received messages may stay meanwhile. Where edges are told, each new message adds a byte. Many
+ * bytes fill the placeholder of a datagram socket, as net.unix.max_dgram_qlen says. */
 void refresh(struct file *file) {
     struct jw_file state = state_of(file->ino);
+    uint64_t few = file->kind == JW_DGRAM ? FEW_DATAGRAMS : JW_MAX_MESSAGES - 1;
     uint64_t count = state.messages > 0 ? state.messages : file->held != NULL;
     bool is_full = count >= JW_MAX_MESSAGES;
     uint64_t least = is_full ? JW_MAX_MESSAGES : count > 0;
-    uint64_t most = is_full ? UINT64_MAX : count > 0 ? JW_MAX_MESSAGES - 1 : 0;
+    uint64_t most = is_full ? UINT64_MAX : count > 0 ? few : 0;
     uint64_t added = tells_edges && count > file->messages ? count - file->messages : 0;
     if (file->tokens + added < least) added = least - file->tokens;
     if (file->tokens + added > most) drop_tokens(file, count - added);
-    if (added > 0 && state.peer != 0) add_tokens(file, file_at(state.peer), added);
+    if (added > 0) add_tokens(file, state.peer, added);
     file->messages = count;
 }
 

@@ -32,8 +32,10 @@ static void add_length(struct file *file, struct parcel *parcel, size_t length) 
 }
 
 /* Notes a message that the layer has queued. */
-void note_message(struct file *file, const struct ucred *sender, size_t length) {
-    add_length(file, add_parcel(file, sender), length);
+struct parcel *note_message(struct file *file, const struct ucred *sender, size_t length) {
+    struct parcel *it = add_parcel(file, sender);
+    add_length(file, it, length);
+    return it;
 }
 
 /* Whether a message without descriptors is queued or held back, as in Linux. */
@@ -43,7 +45,8 @@ bool has_room(const struct file *file, struct file *sender) {
 }
 
 /* Holds a message back. On a stream, it joins the last one, if that is held and of this sender. */
-void hold_message(struct file *file, const struct ucred *sender, const void *from, size_t length) {
+struct parcel *hold_message(struct file *file, const struct ucred *sender, const void *from,
+                            size_t length) {
     struct parcel *last = file->held != NULL ? TAILQ_LAST(&file->queue, parcel_list) : NULL;
     if (last == NULL || file->kind != JW_STREAM || !is_same_user(&last->sender, sender) ||
         last->length + length > JW_MAX_BYTES)
@@ -54,6 +57,7 @@ void hold_message(struct file *file, const struct ucred *sender, const void *fro
     memcpy(grown + last->length, from, length);
     last->bytes = grown;
     add_length(file, last, length);
+    return last;
 }
 
 /* Pushes what is held back for a socket into the layer's queue, as far as there is room. The caller
@@ -94,11 +98,11 @@ static void drop_parcel(struct file *file, struct parcel *parcel) {
 /* Drops what a receive has taken: so many bytes of a stream, or one packet. */
 void drop_received(struct file *file, size_t length) {
     struct parcel *first = TAILQ_FIRST(&file->queue);
-    if (file->kind == JW_SEQPACKET) length = first->length;
+    if (file->kind != JW_STREAM) length = first->length;
     for (; first != NULL && length >= first->length; first = TAILQ_FIRST(&file->queue)) {
         length -= first->length;
         drop_parcel(file, first);
-        if (file->kind == JW_SEQPACKET) return;
+        if (file->kind != JW_STREAM) return;
     }
     if (first == NULL) return;
     first->length -= length;
@@ -109,9 +113,11 @@ void drop_queue(struct file *file) {
     while (!TAILQ_EMPTY(&file->queue)) drop_parcel(file, TAILQ_FIRST(&file->queue));
 }
 
+/* Returns how many bytes there are to receive, of a datagram socket in the first message. */
 size_t bytes_waiting(const struct file *file) {
-    const struct parcel *it;
+    const struct parcel *it = TAILQ_FIRST(&file->queue);
     size_t length = 0;
+    if (file->kind == JW_DGRAM) return it != NULL ? it->length : 0;
     TAILQ_FOREACH(it, &file->queue, entries) length += it->length;
     return length;
 }

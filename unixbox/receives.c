@@ -51,7 +51,7 @@ long take(const struct call *call, size_t length, size_t queued, size_t room) {
  * room for a byte. With SO_PASSCRED, a receive from a stream ends where another has sent. */
 static size_t wanted(const struct call *call, bool has_user) {
     const struct file *file = call->file;
-    if (file->kind == JW_SEQPACKET) return message.length > 0 ? message.length : 1;
+    if (file->kind != JW_STREAM) return message.length > 0 ? message.length : 1;
     const struct parcel *first = TAILQ_FIRST(&file->queue);
     if (!has_user || first == NULL) return message.length;
     const struct ucred *sender = call->moved > 0 ? &call->sender : &first->sender;
@@ -63,8 +63,10 @@ long receive_nothing(struct call *call, long result) {
     const struct file *file = call->file;
     message.is_end = result == 0;
     if (message.is_end) return take_reset(file) ? -ECONNRESET : 0;
-    if (result == -EAGAIN) return wait_for(call, message.flags, file->ino);
-    return file->kind == JW_STREAM && result == -ENOTCONN ? -EINVAL : result;
+    if (result != -EAGAIN) return file->kind == JW_STREAM && result == -ENOTCONN ? -EINVAL : result;
+    result = wait_for(call, message.flags, file->ino);
+    message.is_end = result == CALL_WAITS && (file->shut & 1); /* Of a datagram socket. */
+    return message.is_end ? 0 : result;
 }
 
 /* Receives into the caller's places, with at most so many descriptors. Of a stream, only messages
@@ -73,7 +75,7 @@ static long receive(struct call *call, size_t room, bool has_user) {
     struct file *file = call->file;
     const struct parcel *first = TAILQ_FIRST(&file->queue);
     size_t length = wanted(call, has_user), queued;
-    bool is_packet = file->kind == JW_SEQPACKET, peeks = message.flags & MSG_PEEK;
+    bool is_packet = file->kind != JW_STREAM, peeks = message.flags & MSG_PEEK;
     if (length == 0) return 0; /* What is next, another has sent. */
     if (is_packet && take_reset(file)) return -ECONNRESET;
     long result = look(call, length, &queued);
@@ -90,6 +92,7 @@ static long receive(struct call *call, size_t room, bool has_user) {
         if (length == 0) return -EFAULT;
     }
     call->sender = first->sender;
+    message.from = first->from;
     size_t all = is_packet ? first->length : length;
     message.header.msg_flags |= all > length ? MSG_TRUNC : 0;
     result = take(call, is_packet ? (size_t)result : length, queued, room);
@@ -144,7 +147,9 @@ static void give_files(struct call *call, size_t used) {
 
 /* Writes the name of the sender where a receive asks for it. It is empty where there is none. */
 static void write_sender(const struct call *call) {
-    const struct address nobody = {.length = 0}, *peer = &call->file->peer;
+    bool is_datagram = call->file->kind == JW_DGRAM;
+    const struct address nobody = {.length = 0};
+    const struct address *peer = is_datagram ? &message.from : &call->file->peer;
     bool has_name = !message.is_end && peer->length > sizeof peer->name.sun_family;
     bool has_header = message.at != 0;
     uint64_t at = has_header ? (uint64_t)message.header.msg_name : call->args[4];
@@ -169,7 +174,7 @@ static void write_header(struct call *call, bool has_user) {
 static bool is_enough(const struct call *call, size_t length) {
     size_t all = call->moved + message.total - length, least = call->file->low_water;
     bool is_cut = message.fd_count > 0 || (message.header.msg_flags & MSG_CTRUNC);
-    if (call->file->kind == JW_SEQPACKET || (message.flags & MSG_PEEK) || is_cut) return true;
+    if (call->file->kind != JW_STREAM || (message.flags & MSG_PEEK) || is_cut) return true;
     return length == 0 || call->moved >= (message.flags & MSG_WAITALL ? all : lesser(least, all));
 }
 

@@ -18,10 +18,11 @@ size_t send_buffer_of(struct file *file) {
     return file->send_buffer;
 }
 
-/* Whether the peer has closed the socket with unread messages. Linux tells it once. */
+/* Whether the peer has closed the socket with unread messages, or, of a datagram socket, the target
+ * has lost them by turning away. Linux tells it once. */
 bool take_reset(const struct file *file) {
     int error = 0;
-    if (state_of(file->ino).state != JW_HUNG_UP) return false;
+    if (file->kind != JW_DGRAM && state_of(file->ino).state != JW_HUNG_UP) return false;
     getsockopt(file->host, SOL_SOCKET, SO_ERROR, &error, &(socklen_t){sizeof error});
     return error == ECONNRESET;
 }

@@ -39,23 +39,35 @@ static long open_placeholders(const struct call *call, bool is_pair, int *hosts)
     return errno == EMFILE ? -ENFILE : -errno;
 }
 
+/* Returns the layer's type for one of socket(2). Linux takes SOCK_RAW for SOCK_DGRAM, too. */
+static uint32_t kind_of(int type) {
+    if (type == SOCK_STREAM) return JW_STREAM;
+    return type == SOCK_DGRAM || type == SOCK_RAW ? JW_DGRAM : JW_SEQPACKET;
+}
+
+/* Prepares a placeholder. That of a datagram socket has a name, by which others reach it. */
+static void prepare_placeholder(const struct file *file) {
+    struct sockaddr any = {.sa_family = AF_UNIX};
+    size_buffer(file->host);
+    if (file->kind == JW_DGRAM) bind(file->host, &any, sizeof any.sa_family);
+}
+
 long serve_socket(struct call *call) {
-    int flags = (int)call->args[1], type = flags & 0xf, hosts[2];
-    bool is_pair = call->number == SYS_socketpair, is_stream = type == SOCK_STREAM;
-    uint32_t kind = is_stream ? JW_STREAM : JW_SEQPACKET;
+    static const char *const types[] = {[JW_STREAM] = "stream", [JW_SEQPACKET] = "seqpacket",
+                                        [JW_DGRAM] = "dgram"};
+    int flags = (int)call->args[1], hosts[2];
+    bool is_pair = call->number == SYS_socketpair;
+    uint32_t kind = kind_of(flags & 0xf);
     size_t count = is_pair ? 2 : 1;
     if ((int)call->args[0] != AF_UNIX) return KERNEL_DOES_IT;
     if (flags & ~(0xf | SOCK_CLOEXEC | SOCK_NONBLOCK)) return -EINVAL;
-    bool is_datagram = type == SOCK_DGRAM || type == SOCK_RAW;
-    if (is_datagram && !(is_pair && options.datagrams)) return -EPROTONOSUPPORT;
     long result = open_placeholders(call, is_pair, hosts);
     if (result < 0) return result;
     sync_table(call->process);
     struct jw_pair pair = {0, 0};
     int64_t answer = is_pair ? jw_pair(&engine, call->pid, kind, &pair)
                              : jw_socket(&engine, call->pid, kind);
-    result = record(call->pid, answer, "%s %s", is_pair ? "pair" : "socket",
-                    is_stream ? "stream" : "seqpacket");
+    result = record(call->pid, answer, "%s %s", is_pair ? "pair" : "socket", types[kind]);
     for (size_t i = 0; result < 0 && i < count; i++)
         close(hosts[i]);
     if (result < 0) return result;
@@ -66,7 +78,9 @@ long serve_socket(struct call *call) {
         file->network = call->process->namespaces.network;
         if (is_pair) set_peer_process(file, call->process);
         if (is_pair) file->peer = unnamed;
-        size_buffer(file->host = hosts[i]);
+        if (is_pair && kind == JW_DGRAM) file->target = state_of(file->ino).peer;
+        file->host = hosts[i];
+        prepare_placeholder(file);
     }
     if (is_pair) return give_pair(call, fds, flags & SOCK_CLOEXEC);
     result = install(call, fds, 1, flags & SOCK_CLOEXEC);
@@ -79,19 +93,32 @@ struct name {
     char path[PATH_ROOM], key[KEY_ROOM]; /* The path is empty where the name is abstract. */
 };
 
-/* Reads the name of a bind(2) or a connect(2). It has no key yet. */
-static long read_name(const struct call *call, struct name *out) {
+/* Reads a name of this length at an address. It has no key yet. */
+static long read_name_at(const struct call *call, uint64_t at, socklen_t length, struct name *out) {
     const char *path = out->address.name.sun_path;
-    socklen_t length = (socklen_t)call->args[2];
     out->address = (struct address){.length = length};
     out->path[0] = '\0';
     if (length < PATH_START || length > sizeof out->address.name) return -EINVAL;
-    if (!read_memory(call, &out->address.name, call->args[1], length)) return -EFAULT;
+    if (!read_memory(call, &out->address.name, at, length)) return -EFAULT;
     if (out->address.name.sun_family != AF_UNIX) return -EINVAL;
     if (length == PATH_START || path[0] == '\0') return 0;
     snprintf(out->path, sizeof out->path, "%.*s", (int)(length - PATH_START), path);
     out->address.length = PATH_START + (socklen_t)strlen(out->path) + 1;
     return 0;
+}
+
+/* Reads the name of a bind(2) or a connect(2). */
+static long read_name(const struct call *call, struct name *out) {
+    return read_name_at(call, call->args[1], (socklen_t)call->args[2], out);
+}
+
+/* Whether this is the name of the socket that a datagram socket sends to. */
+bool names_target(const struct call *call, uint64_t at, socklen_t length) {
+    const struct address *target = &call->file->peer;
+    struct name name;
+    return target->length > PATH_START && read_name_at(call, at, length, &name) == 0 &&
+           name.address.length == target->length &&
+           memcmp(&name.address.name, &target->name, target->length) == 0;
 }
 
 /* Gives a name its key: of a pathname, the device and the inode of its file. An abstract name has
@@ -107,7 +134,7 @@ static long find_key(struct name *name, const struct file *socket, int file) {
     if (file >= 0)
         sprintf(name->key, "f.%lx.%lx", found.st_dev, found.st_ino);
     else
-        sprintf(name->key, "%c.%016lx", socket->kind == JW_STREAM ? 's' : 'q', hash);
+        sprintf(name->key, "%c.%016lx", " sq d"[socket->kind], hash);
     return S_ISSOCK(found.st_mode) ? 0 : -ECONNREFUSED;
 }
 
@@ -181,12 +208,40 @@ long serve_listen(struct call *call) {
     return 0;
 }
 
+/* connect(2) of a datagram socket to AF_UNSPEC. */
+static long unconnect(struct call *call) {
+    struct file *file = call->file;
+    bool loses = state_of(file->ino).peer != 0;
+    long result = record(call->pid, jw_unconnect(&engine, call->pid, call->fd), "unconnect %u",
+                         call->fd);
+    if (result < 0) return result;
+    file->peer.length = 0;
+    turn_placeholder(file, NULL, loses);
+    return 0;
+}
+
+/* Lets the placeholder of a datagram socket, which had this target before, follow it to another. */
+static long follow_target(struct file *file, uint64_t before) {
+    const struct file *target = peer_of(file);
+    file->peer = target->own;
+    turn_placeholder(file, target, before != 0 && before != target->ino);
+    return 0;
+}
+
+/* Whether a connect(2) is of a datagram socket to AF_UNSPEC. */
+static bool is_to_none(const struct call *call) {
+    sa_family_t family = AF_UNIX;
+    return call->file->kind == JW_DGRAM && call->args[2] >= sizeof family &&
+           read_memory(call, &family, call->args[1], sizeof family) && family == AF_UNSPEC;
+}
+
 long serve_connect(struct call *call) {
     struct name name;
     struct file *client = call->file, *listener = client;
     struct sockaddr_un host;
     socklen_t length = sizeof host;
-    uint64_t inos[4];
+    uint64_t inos[4], before = state_of(client->ino).peer;
+    if (is_to_none(call)) return unconnect(call);
     long result = read_name(call, &name);
     if (result == 0 && name.address.length == PATH_START) result = -EINVAL;
     if (result < 0) return result;
@@ -198,6 +253,7 @@ long serve_connect(struct call *call) {
     int64_t answer = jw_connect(&engine, call->pid, call->fd, name.key, strlen(name.key));
     result = record(call->pid, answer, "connect %u %s", call->fd, name.key);
     if (result < 0) return result == -EAGAIN ? wait_for(call, 0, EVERYONE) : result;
+    if (client->kind == JW_DGRAM) return follow_target(client, before);
     int64_t count = jw_changed(&engine, inos, 4); /* One of these is the listener. */
     for (int64_t i = 0; i < count && i < 4; i++)
         if (file_at(inos[i])->listens) listener = file_at(inos[i]);
@@ -240,13 +296,18 @@ long serve_accept(struct call *call) {
     return fd;
 }
 
-/* The placeholder is shut, too: poll(2) tells more of an end than the layer. */
+/* The placeholder is shut, too: poll(2) tells more of an end than the layer. One of a datagram
+ * socket may have to send itself bytes as long as its input is open. */
 long serve_shutdown(struct call *call) {
     static const char *const ends[] = {"read", "write", "both"};
     uint32_t how = (uint32_t)call->args[1];
     if (how > JW_SHUT_RDWR) return -EINVAL;
     long result = record(call->pid, jw_shutdown(&engine, call->pid, call->fd, how),
                          "shutdown %u %s", call->fd, ends[how]);
-    if (result == 0) shutdown(call->file->host, (int)how);
-    return result;
+    if (result < 0) return result;
+    bool is_datagram = call->file->kind == JW_DGRAM;
+    call->file->shut |= is_datagram ? (int)how + 1 : 0;
+    if (is_datagram) how = call->file->shut == 3 ? JW_SHUT_RDWR : JW_SHUT_RD;
+    if (!is_datagram || call->file->shut != 2) shutdown(call->file->host, (int)how);
+    return 0;
 }

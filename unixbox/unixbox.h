@@ -43,7 +43,7 @@ extern struct options {
     enum { COLLECT_NEVER, COLLECT_SLICES, COLLECT_PASSES } collector;
     uint32_t budget;                       /* Of a slice, in files. */
     int verifies, checks;                  /* Whether all is recounted after each call. */
-    int datagrams, oob, networks;          /* What is served beside the usual. */
+    int oob, networks;                     /* What is served beside the usual. */
     int is_quiet;
     FILE *script, *graph;                  /* Where steps and the picture go, or NULL. */
 } options;
@@ -86,9 +86,15 @@ struct process {
     LIST_ENTRY(process) entries, unbound_entries;
 };
 
+struct address {
+    struct sockaddr_un name;
+    socklen_t length; /* 0 where there is none. */
+};
+
 /* What is known of a message that a socket has not received. */
 struct parcel {
     struct ucred sender;
+    struct address from;   /* The name of the socket that sent it. */
     size_t length, charge; /* Bytes that are left of it, and what it takes of a send buffer. */
     uint8_t *bytes;        /* Where it is held back, else NULL: the layer has it. */
     TAILQ_ENTRY(parcel) entries;
@@ -104,10 +110,9 @@ struct file {
     uint64_t messages;    /* How many messages its placeholder was refreshed for last. */
     uint64_t tokens;      /* Bytes in the placeholder. */
     bool is_stale;        /* Its placeholder is to be refreshed. */
-    struct address {
-        struct sockaddr_un name;
-        socklen_t length; /* 0 where there is none. */
-    } own, peer;          /* Its name; that of its peer, also after the end of that. */
+    struct address own, peer; /* Its name; that of its peer, also after the end of that. */
+    uint64_t target;      /* The datagram socket to whose placeholder its own is connected, or 0. */
+    int shut;             /* Which ends of a datagram socket are closed: 1 input, 2 output. */
     ino_t network;        /* The network namespace that its abstract name is in. */
     struct ucred peer_user; /* SO_PEERCRED, also of a peer that is over. */
     struct groups *peer_groups; /* SO_PEERGROUPS. NULL where it has had no peer. */
@@ -161,6 +166,7 @@ extern struct message {
     uint8_t bytes[JW_MAX_BYTES];
     _Alignas(struct cmsghdr) char control[MOST_CONTROL];
     struct ucred user; /* SCM_CREDENTIALS */
+    struct address from; /* Who sent it. */
     bool has_files;    /* What is next to receive has descriptors. */
     bool is_end;       /* Nothing is left, and nobody sends more. */
 } message;
@@ -274,13 +280,15 @@ void reopen_placeholder(struct file *file);
 void touch(struct file *file);
 void refresh(struct file *file);
 void refresh_touched(void);
+void turn_placeholder(struct file *file, const struct file *target, bool loses);
 void tell_edges(void);
 void look_for_epoll(void);
 
 bool is_same_user(const struct ucred *one, const struct ucred *other);
-void note_message(struct file *file, const struct ucred *sender, size_t length);
+struct parcel *note_message(struct file *file, const struct ucred *sender, size_t length);
 bool has_room(const struct file *file, struct file *sender);
-void hold_message(struct file *file, const struct ucred *sender, const void *from, size_t length);
+struct parcel *hold_message(struct file *file, const struct ucred *sender, const void *from,
+                            size_t length);
 size_t bytes_waiting(const struct file *file);
 long push_held(const struct call *call, struct file *file);
 size_t copy_held(const struct file *file, uint8_t *to, size_t room);
@@ -294,6 +302,7 @@ bool take_reset(const struct file *file);
 
 long write_address(const struct call *call, uint64_t at, uint64_t length_at,
                    const struct address *address);
+bool names_target(const struct call *call, uint64_t at, socklen_t length);
 
 void close_fd(struct process *process, uint32_t fd);
 void sync_table(struct process *process);
