@@ -69,7 +69,7 @@ class File:
     ino: int
     kind: str
     state: str
-    # The live socket that it is connected to, or 0.
+    # The live socket that it is connected to, or 0; or the socket that a datagram socket sends to, also a freed one.
     peer: int = 0
     # How many may wait at a listener.
     backlog: int = 0
@@ -79,9 +79,19 @@ class File:
     no_output: bool = False
 
     @property
+    def is_datagram(self) -> bool:
+        """Whether it is of the type 'dgram'. Its state is 'connected' where it sends to a socket, and else 'idle'."""
+        return self.kind == "dgram"
+
+    @property
+    def was_connected(self) -> bool:
+        """Whether it can send and receive, or could. A datagram socket always can receive."""
+        return self.is_datagram or self.state in ("connected", "hungup")
+
+    @property
     def is_ended(self) -> bool:
-        """Whether nothing more comes to a socket that was connected."""
-        return self.state == "hungup" or self.state == "connected" and self.no_input
+        """Whether nothing more comes to a socket that was connected. A datagram socket has no end."""
+        return self.state == "hungup" or self.state == "connected" and self.no_input and not self.is_datagram
 
     def shut(self, input_too: bool, output_too: bool):
         """Closes ends, which never open again."""
@@ -144,11 +154,12 @@ class Engine:
             self.drop(gone)
 
     def drop(self, gone: File):
-        """A file goes with its queue, its backlog and its name, and its peer hangs up."""
+        """A file goes with its queue, its backlog and its name, and its peer hangs up. Datagram sockets that send to it
+        go on to, in vain."""
         self.files.remove(gone)
         self.empty({gone.ino})
         for file in self.files:
-            if file.peer == gone.ino:
+            if file.peer == gone.ino and not file.is_datagram:
                 file.state, file.peer = "hungup", 0
 
     def empty(self, inos: Set[int]):
@@ -254,26 +265,33 @@ class Engine:
 
     def do_bind(self, process: Process, on: int, name: str) -> str:
         socket = self.socket_at(process, on)
-        if socket.name or socket.state != "idle" or not NAME.fullmatch(name):
+        is_late = socket.state != "idle" and not socket.is_datagram
+        if socket.name or is_late or not NAME.fullmatch(name):
             raise Refused("EINVAL")
-        if self.named(name):
+        if self.named(name, socket.is_datagram):
             raise Refused("EADDRINUSE")
         socket.name = name
         return "ok"
 
     def do_listen(self, process: Process, on: int, backlog: int) -> str:
         socket = self.socket_at(process, on)
+        if socket.is_datagram:
+            raise Refused("EOPNOTSUPP")
         if not socket.name or socket.state != "idle" or not 1 <= backlog <= MAX_BACKLOG:
             raise Refused("EINVAL")
         socket.state, socket.backlog = "listening", backlog
         return "ok"
 
     def do_connect(self, process: Process, on: int, name: str) -> str:
-        """The client is connected to an embryo, which waits at the listener."""
+        """The client is connected to an embryo, which waits at the listener; a datagram socket sends to the one of this
+        name from now on."""
         client = self.socket_at(process, on)
+        if client.is_datagram:
+            self.turn(client, self.target_named(client, name).ino)
+            return "ok"
         if client.state != "idle":
             raise Refused("EINVAL" if client.state == "listening" else "EISCONN")
-        listener = self.named(name)
+        listener = self.named(name, False)
         if not listener or listener.state != "listening" or listener.no_input:
             raise Refused("ECONNREFUSED")
         if listener.kind != client.kind:
@@ -288,6 +306,8 @@ class Engine:
 
     def do_accept(self, process: Process, on: int) -> str:
         listener = self.socket_at(process, on)
+        if listener.is_datagram:
+            raise Refused("EOPNOTSUPP")
         if listener.state != "listening":
             raise Refused("EINVAL")
         waiting = self.waiting(listener.ino)
@@ -298,14 +318,43 @@ class Engine:
         self.numbers[process.pid, fd] = waiting[0].ino
         return f"fd {fd}"
 
+    def do_unconnect(self, process: Process, on: int) -> str:
+        """A datagram socket sends to none any more."""
+        socket = self.socket_at(process, on)
+        if not socket.is_datagram:
+            raise Refused("EINVAL")
+        self.turn(socket, 0)
+        return "ok"
+
     def do_shutdown(self, process: Process, on: int, how: str) -> str:
-        """The peer's output goes with the input of a socket, and the peer's input with its output. What waits stays."""
+        """The peer's output goes with the input of a socket, and the peer's input with its output. A datagram socket's
+        ends go alone. What waits stays."""
         socket = self.socket_at(process, on)
         ends = how != "write", how != "read"
         socket.shut(*ends)
-        if socket.peer:
+        if socket.peer and not socket.is_datagram:
             self.file(socket.peer).shut(*reversed(ends))
         return "ok"
+
+    def turn(self, socket: File, target: int):
+        """A datagram socket sends to this one from now on, or to none, which is 0. Where it sent to another, what waits
+        at it is lost."""
+        if socket.peer not in (0, target):
+            self.empty({socket.ino})
+        socket.state, socket.peer = "connected" if target else "idle", target
+
+    def target_named(self, socket: File, name: str) -> File:
+        """The datagram socket of this name, which takes messages of this one."""
+        target = self.named(name, True)
+        if not target:
+            raise Refused("ECONNREFUSED")
+        self.check_may_send(socket, target)
+        return target
+
+    def check_may_send(self, socket: File, target: File):
+        """A socket that sends to one takes messages of that one alone."""
+        if target.peer not in (0, socket.ino):
+            raise Refused("EPERM")
 
     # Messages.
 
@@ -316,26 +365,41 @@ class Engine:
         if len(data) > MAX_BYTES:
             raise Refused("EMSGSIZE")
         attached = tuple(self.lookup(process, it) for it in fds)
-        if socket.state in ("idle", "listening"):
-            raise Refused("ENOTCONN")
-        if not socket.peer or socket.no_output:
-            raise Refused("EPIPE")
+        target = self.target_of(socket)
         if fds and self.charged(process.user) > process.limit and not process.is_privileged:
             raise Refused("ETOOMANYREFS")
         if sum(map(self.charged, self.users)) + len(fds) > MAX_INFLIGHT:
             raise Refused("ENOBUFS")
-        if self.file(socket.peer).no_input:
-            raise Refused("EPIPE")
-        if len(self.queued(socket.peer)) >= MAX_MESSAGES:
-            raise Refused("EAGAIN")
-        self.messages.append(Message(socket.peer, data, attached, process.user))
+        self.check_takes(target)
+        self.messages.append(Message(target.ino, data, attached, process.user))
         return f"sent {len(data)}"
+
+    def target_of(self, socket: File) -> File:
+        """The live socket to which a send goes."""
+        if not socket.was_connected:
+            raise Refused("ENOTCONN")
+        if socket.state == "hungup" or socket.no_output:
+            raise Refused("EPIPE")
+        if not socket.peer:
+            raise Refused("ENOTCONN")
+        target = next((it for it in self.files if it.ino == socket.peer), None)
+        if not target:
+            raise Refused("ECONNREFUSED")
+        self.check_may_send(socket, target)
+        return target
+
+    def check_takes(self, target: File):
+        """One message more may come to this socket."""
+        if target.no_input:
+            raise Refused("EPIPE")
+        if len(self.queued(target.ino)) >= MAX_MESSAGES:
+            raise Refused("EAGAIN")
 
     def do_recv(self, process: Process, on: int, most_bytes: int, most_fds: int) -> str:
         socket = self.socket_at(process, on)
         if not 1 <= most_bytes <= MAX_BYTES:
             raise Refused("EINVAL")
-        if socket.state in ("idle", "listening"):
+        if not socket.was_connected:
             raise Refused("ENOTCONN")
         if not self.queued(socket.ino):
             if socket.is_ended:
@@ -356,7 +420,7 @@ class Engine:
     def take(self, socket: File, most: int) -> Tuple[bytes, Tuple[int, ...], bool]:
         """Takes bytes from a socket, with the files that come with them, and tells whether bytes were dropped. The rest
         of a packet is dropped; files end a receive from a stream, with the message that had them."""
-        data, attached, is_packet = b"", (), socket.kind == "seqpacket"
+        data, attached, is_packet = b"", (), socket.kind != "stream"
         for place, message in enumerate(self.messages):
             if message.at != socket.ino:
                 continue
@@ -428,9 +492,9 @@ class Engine:
         """The live file of this number."""
         return next(it for it in self.files if it.ino == ino)
 
-    def named(self, name: str) -> Optional[File]:
-        """The socket of this name."""
-        return next((it for it in self.files if it.name == name), None)
+    def named(self, name: str, is_datagram: bool) -> Optional[File]:
+        """The socket of this name. Datagram sockets have names of their own."""
+        return next((it for it in self.files if it.name == name and it.is_datagram == is_datagram), None)
 
     # The views.
 
@@ -473,9 +537,15 @@ class Engine:
         if file.kind == "plain":
             return True, True, False
         is_readable = file.is_ended or bool(self.queued(file.ino)) or bool(self.waiting(file.ino))
-        takes_more = bool(file.peer) and not self.file(file.peer).no_input and not file.no_output
-        is_writable = takes_more and len(self.queued(file.peer)) < MAX_MESSAGES
-        return is_readable, is_writable, file.state == "hungup" or file.no_input and file.no_output
+        return is_readable, self.is_writable(file), file.state == "hungup" or file.no_input and file.no_output
+
+    def is_writable(self, socket: File) -> bool:
+        """Whether a send of a byte is not refused. That of a datagram socket may be, but not for a full queue."""
+        try:
+            self.check_takes(self.target_of(socket))
+            return True
+        except Refused as error:
+            return socket.is_datagram and str(error) != "EAGAIN"
 
     def table(self) -> str:
         """The text of the report `table`."""

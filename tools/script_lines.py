@@ -40,10 +40,16 @@ VERBS = {
     b"peek": "number number number",
     b"limit": "number",
     b"shutdown": "number ends",
+    b"unconnect": "number",
 }
 # The first version that has a verb, where that is not version 1; and the versions that a line can name.
-FIRST_VERSIONS = {b"peek": 2, b"limit": 2, b"shutdown": 3}
+FIRST_VERSIONS = {b"peek": 2, b"limit": 2, b"shutdown": 3, b"unconnect": 3}
 VERSIONS = {b"2": 2, b"3": 3}
+# The types by version, and the reason why another word is none.
+TYPES = {
+    1: ((b"seqpacket", b"stream"), "a type is seqpacket or stream"),
+    3: ((b"seqpacket", b"stream", b"dgram"), "a type is dgram, seqpacket or stream"),
+}
 QUESTIONS = b"who", b"graph", b"help"
 WORD = re.compile(rb"[^ \t]+")
 # A byte of a message: a character that means itself, or two digits behind a %.
@@ -117,22 +123,29 @@ def items(words: List[Word]):
             raise Misfit(word.at, "the items of a line are at most 1024 descriptors")
 
 
-def fit(kind: str, word: Word):
-    """Whether a word is of its kind; a name is any word."""
+def socket_type(word: Word, version: int):
+    """Whether a word is a type of sockets in this version."""
+    words, reason = TYPES[max(it for it in TYPES if it <= version)]
+    if word.text not in words:
+        raise Misfit(word.at, reason)
+
+
+def fit(kind: str, word: Word, version: int):
+    """Whether a word is of its kind, in a script of this version; a name is any word."""
     if kind == "number":
         number(word)
     elif kind == "bytes":
         payload(word)
-    elif kind == "type" and word.text not in (b"seqpacket", b"stream"):
-        raise Misfit(word.at, "a type is seqpacket or stream")
+    elif kind == "type":
+        socket_type(word, version)
     elif kind == "ends" and word.text not in (b"read", b"write", b"both"):
         raise Misfit(word.at, "HOW is read, write or both")
     elif kind == "version" and word.text not in VERSIONS:
         raise Misfit(word.at, "the versions to name are 2 and 3")
 
 
-def fit_form(form: str, words: List[Word], end: int):
-    """Whether words are of a form, on a line with this end."""
+def fit_form(form: str, words: List[Word], end: int, version: int):
+    """Whether words are of a form, on a line with this end, in a script of this version."""
     rest = list(words)
     for kind in form.split():
         if kind == "items":
@@ -144,7 +157,7 @@ def fit_form(form: str, words: List[Word], end: int):
         elif not rest:
             raise Misfit(end, "a word is missing")
         else:
-            fit(kind, rest.pop(0))
+            fit(kind, rest.pop(0), version)
     if rest:
         raise Misfit(rest[0].at, "a word too many")
 
@@ -157,8 +170,8 @@ def is_number(word: Word) -> bool:
         return False
 
 
-def first_form(words: List[Word], end: int) -> Word:
-    """The word that says which form a line has; the words behind it are of that form."""
+def first_form(words: List[Word], end: int, version: int) -> Word:
+    """The word that says which form a line has; the words behind it are of that form, in a script of this version."""
     first, *rest = words
     if is_number(first):
         if not rest:
@@ -166,13 +179,13 @@ def first_form(words: List[Word], end: int) -> Word:
         verb, *rest = rest
         if verb.text not in VERBS:
             raise Misfit(verb.at, "no event of a process has this name")
-        fit_form(VERBS[verb.text], rest, end)
+        fit_form(VERBS[verb.text], rest, end, version)
         return verb
     if first.text not in KEYWORDS:
         if re.match(rb"[0-9]", first.text):
             number(first)
         raise Misfit(first.at, "no line begins with this word")
-    fit_form(KEYWORDS[first.text], rest, end)
+    fit_form(KEYWORDS[first.text], rest, end, version)
     return first
 
 
@@ -193,7 +206,7 @@ class Reader:
         other = re.search(rb"[^\x20-\x7e\t]", line)
         if other:
             raise Misfit(other.start(), "this byte is not printable ASCII")
-        form = first_form(words, len(line))
+        form = first_form(words, len(line), self.version or 1)
         if form.text == b"version" and self.version:
             raise Misfit(form.at, "only comments and empty lines can stand before a version")
         first = FIRST_VERSIONS.get(form.text, 1)
