@@ -115,6 +115,7 @@ static void by_strangers(uint32_t pid) {
     REFUSED(jw_accept(&engine, pid, 0), JW_ESRCH);
     REFUSED(jw_shutdown(&engine, pid, 0, JW_SHUT_RDWR), JW_ESRCH);
     REFUSED(jw_shutdown(&engine, pid, LAST, JW_SHUT_RD), JW_ESRCH);
+    REFUSED(jw_unconnect(&engine, pid, 0), JW_ESRCH);
     REFUSED(send(pid, 0, 1, many, 0), JW_ESRCH);
     REFUSED(send(pid, 0, 0, many, JW_MAX_FD + 1), JW_ESRCH);
     REFUSED(receive(pid, 0, 8), JW_ESRCH);
@@ -132,6 +133,7 @@ static void at_closed(uint32_t fd) {
     REFUSED(jw_connect(&engine, 1, fd, "name", 4), JW_EBADF);
     REFUSED(jw_accept(&engine, 1, fd), JW_EBADF);
     REFUSED(jw_shutdown(&engine, 1, fd, JW_SHUT_WR), JW_EBADF);
+    REFUSED(jw_unconnect(&engine, 1, fd), JW_EBADF);
     REFUSED(send(1, fd, 1, many, 0), JW_EBADF);
     REFUSED(send(1, fd, 0, many, JW_MAX_FD + 1), JW_EBADF);
     REFUSED(send(1, 0, 1, &fd, 1), JW_EBADF);
@@ -213,6 +215,7 @@ static void events_without_an_engine(void) {
     REFUSED(jw_listen(&engine, 1, 0, 1), JW_ENOENGINE);
     REFUSED(jw_connect(&engine, 1, 0, "name", 4), JW_ENOENGINE);
     REFUSED(jw_accept(&engine, 1, 0), JW_ENOENGINE);
+    REFUSED(jw_unconnect(&engine, 1, 0), JW_ENOENGINE);
     REFUSED(jw_shutdown(&engine, 1, 0, JW_SHUT_RDWR), JW_ENOENGINE);
     REFUSED(jw_shutdown(&engine, 1, 0, JW_SHUT_RDWR + 1), JW_EINVAL);
     REFUSED(send(1, 0, 1, many, 0), JW_ENOENGINE);
@@ -374,6 +377,46 @@ static int shut_before(void) {
     MUST(is_ready(CLIENT, true, true, false) && is_ready(server, false, false, false));
     MUST(jw_send(&engine, 1, CLIENT, "a", 1, many, 0) == 1);
     MUST(is_ready(server, true, false, false));
+    return 0;
+}
+
+/* A datagram socket sends to a name until it is freed, or to none. What waits at one that had
+ * another target is lost. A target that sends to another takes from that one alone. */
+static int aimed(void) {
+    enum { LOG = 0, HERE = 1, THERE = 2, STREAM = 3, PLAIN = 4 };
+    struct jw_received got;
+    struct jw_file file;
+    uint64_t log, here;
+    MUST(jw_engine_new(&engine) == 0 && jw_spawn(&engine, 7, 16, false) == 1);
+    for (int fd = 0; fd <= THERE; fd++)
+        MUST(jw_socket(&engine, 1, JW_DGRAM) == fd);
+    MUST(jw_socket(&engine, 1, JW_STREAM) == STREAM && jw_open(&engine, 1) == PLAIN);
+    REFUSED(jw_unconnect(&engine, 1, STREAM), JW_EINVAL);
+    REFUSED(jw_unconnect(&engine, 1, PLAIN), JW_ENOTSOCK);
+    MUST(jw_bind(&engine, 1, LOG, "log", 3) == 0 && jw_bind(&engine, 1, THERE, "there", 5) == 0);
+    REFUSED(jw_listen(&engine, 1, LOG, 1), JW_EOPNOTSUPP);
+    REFUSED(jw_accept(&engine, 1, LOG), JW_EOPNOTSUPP);
+    REFUSED(send(1, HERE, 1, many, 0), JW_ENOTCONN);
+    REFUSED(receive(1, HERE, 8), JW_EAGAIN);
+    MUST(is_ready(HERE, false, true, false));
+    MUST(jw_connect(&engine, 1, HERE, "log", 3) == 0 && jw_ino(&engine, 1, LOG, &log) == 0);
+    MUST(jw_ino(&engine, 1, HERE, &here) == 0 && jw_file(&engine, here, &file) == 0);
+    MUST(file.kind == JW_DGRAM && file.state == JW_CONNECTED && file.peer == log);
+    MUST(jw_send(&engine, 1, HERE, "abc", 3, many, 0) == 3 && is_ready(LOG, true, true, false));
+    MUST(jw_recv(&engine, 1, LOG, big, 2, NULL, 0, &got) == 2 && got.trunc);
+    MUST(jw_connect(&engine, 1, LOG, "there", 5) == 0);
+    REFUSED(send(1, HERE, 1, many, 0), JW_EPERM);
+    REFUSED(jw_connect(&engine, 1, HERE, "log", 3), JW_EPERM);
+    MUST(jw_connect(&engine, 1, THERE, "log", 3) == 0);
+    MUST(jw_send(&engine, 1, THERE, "a", 1, many, 0) == 1);
+    MUST(jw_unconnect(&engine, 1, LOG) == 0 && is_ready(LOG, false, true, false));
+    MUST(jw_send(&engine, 1, HERE, "a", 1, many, 0) == 1 && jw_close(&engine, 1, LOG) == 0);
+    REFUSED(send(1, HERE, 1, many, 0), JW_ECONNREFUSED);
+    REFUSED(jw_connect(&engine, 1, HERE, "log", 3), JW_ECONNREFUSED);
+    MUST(is_ready(HERE, false, true, false) && jw_file(&engine, here, &file) == 0);
+    MUST(file.state == JW_CONNECTED && file.peer == log && jw_unconnect(&engine, 1, HERE) == 0);
+    MUST(jw_unconnect(&engine, 1, HERE) == 0 && jw_file(&engine, here, &file) == 0);
+    MUST(file.state == JW_IDLE && file.peer == 0);
     return 0;
 }
 
@@ -590,7 +633,9 @@ int main(void) {
     MUST(jw_engine_new(&engine) == 0);
     MUST(jw_engine_new(&engine) == 0);
     MUST(jw_next_pid(&engine) == 1);
-    if (polled() != 0 || shut_pair() != 0 || shut_before() != 0 || told() != 0 || emptied() != 0)
+    if (polled() != 0 || shut_pair() != 0 || shut_before() != 0 || aimed() != 0)
+        return 1;
+    if (told() != 0 || emptied() != 0)
         return 1;
     jw_engine_free(&engine);
     return failures == 0 ? 0 : 1;

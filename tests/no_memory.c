@@ -139,6 +139,22 @@ static void listener(void) {
     FREE(jw_shutdown(&engine, 1, 2, JW_SHUT_WR), -JW_ENOTSOCK);
 }
 
+/* A datagram socket with a message, whose target is another one, then none. */
+static void datagrams(void) {
+    struct jw_pair pair;
+
+    DONE(jw_pair(&engine, 1, JW_DGRAM, &pair), 0);
+    DONE(jw_bind(&engine, 1, pair.first, "mail", 4), 0);
+    DONE(jw_send(&engine, 1, pair.first, "me", 2, &pair.first, 1), 2);
+    FREE(jw_unconnect(&engine, 1, pair.first), 0);
+    FREE(jw_connect(&engine, 1, pair.first, "mail", 4), 0);
+    DONE(jw_send(&engine, 1, pair.first, "me", 2, &pair.second, 1), 2);
+    FREE(jw_unconnect(&engine, 1, pair.first), 0);
+    DONE(jw_send(&engine, 1, pair.second, "me", 2, NULL, 0), 2);
+    FREE(jw_unconnect(&engine, 1, pair.second), 0);
+    FREE(jw_unconnect(&engine, 1, 0), -JW_EINVAL);
+}
+
 /* Views and reports. */
 static void reports(void) {
     struct jw_checked checked = {0, 0};
@@ -165,6 +181,7 @@ static void life(void) {
     lists();
     message();
     listener();
+    datagrams();
     reports();
     FREE(jw_exit(&engine, 2), 0);
     FREE(jw_close(&engine, 1, 40), 0);
@@ -172,7 +189,7 @@ static void life(void) {
     FREE(jw_slice(&engine, 65536, &finished), 0);
     FREE(jw_pass(&engine, &finished), 0);
     FREE(jw_live(&engine, &live) == 0 && live == 0, true);
-    FREE(jw_released(&engine, inos, 16), 6);
+    FREE(jw_released(&engine, inos, 16), 8);
     FREE(jw_changed(&engine, inos, 16), 0);
     FREE(jw_clear_told(&engine), 0);
     FREE(jw_released(&engine, inos, 16), 0);

@@ -206,7 +206,8 @@ static struct seen see(uint32_t pid, uint32_t fd) {
     return it;
 }
 
-static bool is_socket(const struct seen *it) {
+/* Whether it is a socket that has a peer and ends of connections. */
+static bool is_connective(const struct seen *it) {
     return it->file.kind == JW_STREAM || it->file.kind == JW_SEQPACKET;
 }
 
@@ -218,7 +219,7 @@ static void compare_readiness(uint32_t pid, uint32_t fd) {
     bool has_end = is_hung_up || (is_connected && (it.shut & INPUT));
     bool is_open = is_connected && !(it.shut & OUTPUT) && !(it.peer_shut & INPUT);
     MUST(jw_poll(&engine, pid, fd, &ready) == 0);
-    if (!is_socket(&it))
+    if (!is_connective(&it))
         return;
     MUST(ready.readable == (it.file.messages + it.file.embryos > 0 || has_end));
     MUST(ready.writable == (is_open && it.peer.messages < JW_MAX_MESSAGES));
@@ -237,7 +238,7 @@ static void compare_all(void) {
 static int64_t sent(const struct seen *it, int64_t answer) {
     bool is_closed = (it->shut & OUTPUT) || (it->peer_shut & INPUT);
     bool is_late = !(it->shut & OUTPUT) && (answer == -JW_ETOOMANYREFS || answer == -JW_ENOBUFS);
-    if (it->file.state != JW_CONNECTED || answer == -JW_EBADF || is_late)
+    if (!is_connective(it) || it->file.state != JW_CONNECTED || answer == -JW_EBADF || is_late)
         return answer;
     MUST((answer == -JW_EPIPE) == is_closed);
     return answer;
@@ -245,7 +246,7 @@ static int64_t sent(const struct seen *it, int64_t answer) {
 
 /* Checks what a receive has answered: the end where nothing is left and the input is shut. */
 static int64_t received(const struct seen *it, int64_t answer) {
-    if (it->file.state == JW_CONNECTED && it->file.messages == 0)
+    if (is_connective(it) && it->file.state == JW_CONNECTED && it->file.messages == 0)
         MUST(answer == (it->shut & INPUT ? 0 : -JW_EAGAIN));
     return answer;
 }
@@ -276,7 +277,8 @@ static uint32_t any_socket(uint32_t pid, enum jw_state state) {
 }
 
 static uint32_t any_kind(void) {
-    return below(2) == 0 ? JW_STREAM : JW_SEQPACKET;
+    static const uint32_t kinds[] = {JW_STREAM, JW_SEQPACKET, JW_DGRAM};
+    return kinds[below(3)];
 }
 
 static const char *any_name(void) {
@@ -373,8 +375,13 @@ static int64_t play_listen(uint32_t pid) {
 }
 
 static int64_t play_connect(uint32_t pid) {
-    uint32_t fd = any_socket(pid, JW_IDLE);
-    return makes(1, jw_connect(&engine, pid, fd, any_name(), 1));
+    uint32_t fd = any_socket(pid, below(3) == 0 ? JW_CONNECTED : JW_IDLE);
+    struct seen it = see(pid, fd);
+    return makes(it.file.kind == JW_DGRAM ? 0 : 1, jw_connect(&engine, pid, fd, any_name(), 1));
+}
+
+static int64_t play_unconnect(uint32_t pid) {
+    return jw_unconnect(&engine, pid, any_socket(pid, JW_CONNECTED));
 }
 
 static int64_t play_accept(uint32_t pid) {
@@ -417,7 +424,7 @@ static int64_t play_shutdown(uint32_t pid) {
         return answer;
     int own = how == JW_SHUT_RD ? INPUT : how == JW_SHUT_WR ? OUTPUT : INPUT | OUTPUT;
     shut[it.ino] |= own;
-    if (it.file.peer != 0)
+    if (it.file.peer != 0 && is_connective(&it))
         shut[it.file.peer] |= (own & INPUT ? OUTPUT : 0) | (own & OUTPUT ? INPUT : 0);
     compare_readiness(pid, fd);
     return answer;
@@ -454,7 +461,8 @@ static struct event events[] = {
     {"socket", 70, play_socket, false, 0, 0},
     {"bind", 60, play_bind, false, 0, 0},
     {"listen", 60, play_listen, false, 0, 0},
-    {"connect", 60, play_connect, false, 0, 0},
+    {"connect", 80, play_connect, true, 0, 0},
+    {"unconnect", 12, play_unconnect, true, 0, 0},
     {"accept", 60, play_accept, false, 0, 0},
     {"send", 160, play_send, false, 0, 0},
     {"recv", 80, play_recv, true, 0, 0},
@@ -535,7 +543,7 @@ int main(void) {
 
     printf("pipes: %d events, %" PRIu64 " files opened and freed\n", EVENTS, opened);
     for (const struct event *it = events; it < events + KINDS; it++)
-        printf("    %-8s %6" PRIu64 " done, %6" PRIu64 " closed\n", it->name, it->done, it->closed);
+        printf("    %-9s %6" PRIu64 " done, %6" PRIu64 " closed\n", it->name, it->done, it->closed);
     for (const struct event *it = events; it < events + KINDS; it++)
         MUST(it->done > 0 && (it->closed > 0) == it->frees);
     printf("pipes: %d of %d writing ends closed\n", PIPES, PIPES);

@@ -123,6 +123,7 @@ def command_lines(program: Program) -> Iterator[Check]:
         ("run --help", b"P peek N N N"),
         ("run --help", b"P limit N"),
         ("run --help", b"P shutdown N HOW"),
+        ("run --help", b"P unconnect N"),
         ("--help", b"scmgc bench"),
         (race(steps=20_001), b"more than 20000 steps need --checkpoint"),
     ]:

@@ -98,8 +98,8 @@ answers_all() {
 
 # Runs the programs under a build of unixbox.
 plays() {
-    for name in descriptors arguments senders addresses room options shutdown moves children paths \
-        credentials; do
+    for name in descriptors arguments senders addresses room options shutdown datagrams moves \
+        children paths credentials; do
         same "$1" "$user" "$room/$name"
     done
     for name in waits processes children paths credentials; do
@@ -118,8 +118,8 @@ plays() {
     echo "unixbox: the programs passed$2"
 }
 
-for name in notification descriptors arguments senders addresses room options shutdown moves waits \
-    processes children paths credentials readiness spared cost; do
+for name in notification descriptors arguments senders addresses room options shutdown datagrams \
+    moves waits processes children paths credentials readiness spared cost; do
     $cc $checks -pedantic "tests/unixbox/$name.c" -o "$room/$name" -lpthread
 done
 $cc -nostdlib -static tests/unixbox/pause.c -o "$room/pause"

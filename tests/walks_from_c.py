@@ -8,8 +8,9 @@ socket. Some 100,000 seeded events are played, begins and slices of passes among
 After every other event, drawn by the seed, the two lists are compared. `jw_released` has each file that the plain
 engine freed since the lists were emptied last, once, and no other. `jw_changed` has each live socket that an event made
 or changed since then, by its state, peer, closed ends, messages or embryos, and each that a shutdown was of, or of its
-peer, once, and no other. A socket that was live then and is live now, is not in `jw_changed`, and whose peer is not, is
-ready for what it was then. The lists are emptied at random moments.
+peer, or that got a target or lost it, once, and no other. A socket that was live then and is live now, is not in
+`jw_changed`, and whose peer or target is not, nor in `jw_released`, is ready for what it was then. The lists are emptied
+at random moments.
 
 It prints the first differences. The status is 0 where there is none and both lists had something, and else 1. The
 library is built from out/libjaywardrobe.a, as tests/embedding.sh does.
@@ -37,13 +38,13 @@ LOADER.exec_module(walks)
 
 with open(f"{ROOT}/include/jaywardrobe.h", encoding="utf-8") as header:
     ERRORS = {int(number): name for name, number in re.findall(r"JW_(E\w+) = (\d+)", header.read())}
-TYPES = {"stream": 1, "seqpacket": 2}
+TYPES = {"stream": 1, "seqpacket": 2, "dgram": 4}
 HOW = {"read": 0, "write": 1, "both": 2}
 # The answer of a call that was done, by its name.
 OPENS = {"open", "dup", "dup2", "socket", "accept"}
 STARTS = {"spawn", "fork"}
 # How many walks of each mix, and how many differences are shown.
-WALKS = {"lively": 14, "cramped": 14, "curious": 14, "shut": 14, "slices": 160}
+WALKS = {"lively": 14, "cramped": 14, "curious": 14, "shut": 14, "mail": 14, "slices": 160}
 MOST = 5
 # Within how many events the lists are asked for; of how many events one is followed by a look at the lists, and of how
 # many looks one by a call that empties them.
@@ -144,6 +145,10 @@ class Library:
 
     def do_shutdown(self, pid, on: int, how: str) -> str:
         self.call("shutdown", pid, ctypes.c_uint32(on), ctypes.c_uint32(HOW[how]))
+        return "ok"
+
+    def do_unconnect(self, pid, on: int) -> str:
+        self.call("unconnect", pid, ctypes.c_uint32(on))
         return "ok"
 
     def do_send(self, pid, on: int, data: bytes, *fds: int) -> str:
@@ -305,7 +310,7 @@ class Told:
         self.next_ino = 1
         # The readiness of each socket before.
         self.ready: Dict[int, Tuple[bool, bool, bool]] = {}
-        # The sockets behind the last event, and those that an event made, changed or shut since then.
+        # The sockets behind the last event, and those that an event made, changed, shut or aimed since then.
         self.sockets: Dict[int, Socket] = {}
         self.touched: Set[int] = set()
 
@@ -322,9 +327,9 @@ class Told:
 
     def after_event(self, engine, event: Event, reply: str):
         """Looks at the lists after some events, and empties them after some looks."""
-        if event.verb == "shutdown" and reply == "ok":
-            ino = engine.numbers[event.pid, event.values[0]]
-            self.touched.update((ino, engine.file(ino).peer))
+        if event.verb in ("shutdown", "connect", "unconnect") and reply == "ok":
+            file = engine.file(engine.numbers[event.pid, event.values[0]])
+            self.touched.update({file.ino} if file.is_datagram else {file.ino, file.peer})
         before, self.sockets = self.sockets, sockets_of(engine)
         self.touched.update(ino for ino, it in self.sockets.items() if before.get(ino) != it)
         if not self.is_told:
@@ -349,7 +354,7 @@ class Told:
         sockets, told = {it for it in files if files[it].kind != "plain"}, set(changed)
         if len(told) < len(changed) or told != sockets & self.touched:
             raise Difference(f"changed sockets: {sorted(changed)}, and not {sorted(sockets & self.touched)}")
-        compared = [it for it in sockets - told if it in self.ready and files[it].peer not in told]
+        compared = [it for it in sockets - told if it in self.ready and files[it].peer not in told.union(gone)]
         for ino in compared:
             now = engine.ready(files[ino])
             if now != self.ready[ino]:

@@ -21,17 +21,26 @@ import struct
 import sys
 from typing import Any, Callable, Dict, List, NamedTuple, NoReturn, Optional, Set, Tuple
 
-from plain_engine import MAX_NOFILE, Event, spelled
+from plain_engine import MAX_MESSAGES, MAX_NOFILE, Event, spelled
 
 # The events that poll(2) reports, by descriptor.
 Ready = Dict[int, int]
 Socket = socket.socket
-TYPES = {"stream": socket.SOCK_STREAM, "seqpacket": socket.SOCK_SEQPACKET}
+TYPES = {
+    "stream": socket.SOCK_STREAM,
+    "seqpacket": socket.SOCK_SEQPACKET,
+    "dgram": socket.SOCK_DGRAM,
+}
 HOW = {"read": socket.SHUT_RD, "write": socket.SHUT_WR, "both": socket.SHUT_RDWR}
 LIBC = ctypes.CDLL(None, use_errno=True)
 CLONE_NEWNET = 0x40000000
 PR_SET_KEEPCAPS, PR_SET_CHILD_SUBREAPER = 8, 36
 CAP_SYS_ADMIN = 21
+# An address of the family AF_UNSPEC.
+NO_ADDRESS = struct.pack("H14x", socket.AF_UNSPEC)
+# How many datagrams fit in a queue, with one more; and which error has two names.
+MAX_DGRAM_QLEN = "/proc/sys/net/unix/max_dgram_qlen"
+OF_TWO_NAMES = {"ENOTSUP": "EOPNOTSUPP"}
 # The two pipes of a process, above each limit; and its hard limit.
 ORDERS, ANSWERS, MOST_FILES = MAX_NOFILE + 76, MAX_NOFILE + 77, 4096
 # The oldest Linux whose sockets are compared.
@@ -116,6 +125,10 @@ class Steps:
 
     def accept(self, fd: int) -> str:
         return self.on(fd, lambda it: f"fd {new(it.accept()[0])[0]}")
+
+    def unconnect(self, fd: int) -> str:
+        libc("connect", fd, NO_ADDRESS, len(NO_ADDRESS))
+        return "ok"
 
     def shutdown(self, fd: int, how: str) -> str:
         return self.on(fd, lambda it: it.shutdown(HOW[how]))
@@ -206,7 +219,8 @@ def do(verb: str, *words: Any) -> str:
             return fork(*words)
         return getattr(Steps(), verb)(*words)
     except OSError as error:
-        return errno.errorcode[error.errno]
+        name = errno.errorcode[error.errno]
+        return OF_TWO_NAMES.get(name, name)
 
 
 def serve(folder: str, pid: int) -> NoReturn:
@@ -388,8 +402,11 @@ class Kernel:
 
 
 def enter_namespace():
-    """Enters a network namespace of its own, with no other sockets, and adopts orphans."""
+    """Enters a network namespace of its own, with no other sockets and with as much room in the
+    queues of datagram sockets as there is here, and adopts orphans."""
     libc("unshare", CLONE_NEWNET)
+    with open(MAX_DGRAM_QLEN, "w", encoding="ascii") as it:
+        it.write(str(MAX_MESSAGES - 1))
     libc("prctl", PR_SET_CHILD_SUBREAPER, 1, 0, 0, 0)
     resource.setrlimit(resource.RLIMIT_NOFILE, (MOST_FILES, MOST_FILES))
 

@@ -4,15 +4,15 @@ import shutil
 import tempfile
 import time
 from collections import Counter
+from select import POLLHUP, POLLIN, POLLOUT
 from typing import Callable, Dict, Iterator, List, NamedTuple
 
-from kernel_differences import Scene, allowed, avoided
+from kernel_differences import GONE_TARGET, Look, Scene, allowed, avoided, told_otherwise
 from kernel_processes import Answer, Kernel, Ready, Stuck
 from plain_engine import Engine, Event, File
 
 # A script for an engine: the next event may depend on the engine and on the replies so far.
 Script = Callable[[Engine], Iterator[Event]]
-POLLIN, POLLOUT, POLLHUP = 1, 4, 16
 # How often, and every how many seconds, it is asked whether Linux's collector is done; and how
 # often it is woken meanwhile.
 LOOKS, BETWEEN, WAKES = 400, 0.005, 16
@@ -74,6 +74,7 @@ class Walk:
             return reply
         answer = self.answer(event, pid, ino)
         self.compare_replies(scene, reply, answer.reply)
+        self.follow(scene, answer.reply)
         self.compare_tables(event.pid or pid, answer)
         self.collect()
         self.compare_files()
@@ -95,6 +96,13 @@ class Walk:
         if not row:
             raise Fault(f"the layer answers {here!r}, the kernel {there!r}")
         self.rows[row] += 1
+
+    def follow(self, scene: Scene, there: str):
+        """Linux answers a send to a socket that is gone once. Then the sender is as after an
+        unconnect."""
+        if scene.verb == "send" and there == "ECONNREFUSED":
+            self.rows[GONE_TARGET] += 1
+            self.engine.step(Event("unconnect", scene.event.pid, (scene.value(0),)))
 
     def compare_tables(self, pid: int, answer: Answer):
         """Each open descriptor refers to the same file on both sides."""
@@ -145,22 +153,23 @@ class Walk:
             raise Fault(f"{self.sockets()} sockets are live, on the kernel {sockets}")
 
     def compare_ready(self):
-        """poll(2) tells the same of each socket that a process has. (docs/PROFILE.md tells apart an
-        idle socket, one that is writable there and not here, and a listener whose input is
-        closed.)"""
+        """poll(2) tells the same of each socket that a process has, but of one that is no datagram
+        socket and was never connected."""
         looks, files = self.kernel.look(), self.live()
         for (pid, fd), ino in self.engine.numbers.items():
-            if files[ino].state not in ("-", "idle"):
+            if files[ino].is_datagram or files[ino].state not in ("-", "idle"):
                 self.compare_socket(fd, files[ino], looks[pid].ready)
 
     def compare_socket(self, fd: int, file: File, ready: Ready):
-        seen = ready.get(fd, 0)
-        is_readable, is_writable, is_hung_up = self.engine.ready(file)
-        is_readable = is_readable or file.state == "listening" and file.no_input
-        is_same = bool(seen & POLLIN) == is_readable and bool(seen & POLLHUP) == is_hung_up
-        if not is_same or is_writable and not seen & POLLOUT:
-            told = f"readable {is_readable}, writable {is_writable}, hung up {is_hung_up}"
-            raise Fault(f"descriptor {fd} is {told}; poll(2) on the kernel tells {seen:#x}")
+        seen, told = ready.get(fd, 0), self.engine.ready(file)
+        for event, is_here in zip((POLLIN, POLLOUT, POLLHUP), told):
+            if bool(seen & event) == is_here:
+                continue
+            row = told_otherwise(Look(self.engine, file), event, is_here)
+            if not row:
+                words = "readable {}, writable {}, hung up {}".format(*told)
+                raise Fault(f"descriptor {fd} is {words}; poll(2) on the kernel tells {seen:#x}")
+            self.rows[row] += 1
 
 
 def played(script: Script, first_user: int) -> Outcome:

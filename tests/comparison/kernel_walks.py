@@ -4,8 +4,9 @@
     tests/comparison/kernel_walks.py [--seeds N] [--first SEED] [--events N] [--mix MIX]
 
 As root, on Linux. A walk is a script of N events in a network namespace and with users of its own.
-In turn it is of the mixes `lively`, `cramped`, `curious` and `shut` of tools/walks, and one of its
-own, `cycles`, whose messages all have descriptors, mostly of sockets. Compared are, event by event:
+In turn it is of the mixes `lively`, `cramped`, `curious`, `shut` and `mail` of tools/walks, each
+with datagram sockets, and of two of its own, whose messages all have descriptors, mostly of
+sockets: `cycles`, and `rings` with hardly any but datagram sockets. Compared are, event by event:
 
 - the reply
 - which file each open descriptor of the process refers to
@@ -50,10 +51,13 @@ from plain_engine import Engine, Event  # noqa: E402
 LOADER = SourceFileLoader("walks", f"{ROOT}/tools/walks")
 WALKS = module_from_spec(spec_from_loader("walks", LOADER))
 LOADER.exec_module(WALKS)
-MIXES = "lively", "cramped", "curious", "cycles", "shut"
-# The kinds of events of the last mix.
+MIXES = "lively", "cramped", "curious", "cycles", "shut", "mail", "rings"
+# The kinds of events of the mixes with sockets in messages; and what each mix but `mail` has more.
 CYCLING = "spawn fork exit open dup dup2 socket recv peek" + " pair close close send send" * 4
 CYCLING += " send send shutdown" + " meet" * 4
+RINGING = CYCLING + " bind connect unconnect" * 2 + " post" * 24
+MORE = " unconnect connect" + " post" * 8
+TYPES = "stream", "seqpacket", "dgram"
 # The users of a walk, far from those of the machine, and how many numbers each run and walk has.
 FIRST_USER, OF_RUN, OF_WALK, USERS = 10**9, 10**6, 10**4, 16
 # How many faults are shown, and how wide. Linux may keep garbage in two walks, and in one more for
@@ -70,11 +74,19 @@ class Task(NamedTuple):
     first_user: int
 
 
+def mix_of(name: str) -> NamedTuple:
+    """The mix of tools/walks by which events are drawn."""
+    if name == "mail":
+        return WALKS.MIXES["mail"]
+    if name == "rings":
+        return WALKS.MIXES["mail"]._replace(kinds=RINGING)
+    mix = WALKS.MIXES["shut"]._replace(kinds=CYCLING) if name == "cycles" else WALKS.MIXES[name]
+    return mix._replace(kinds=mix.kinds + MORE, types=TYPES)
+
+
 def drawn(task: Task) -> Script:
     """Events as tools/walks draws them."""
-    is_cycling = task.mix == "cycles"
-    mix = WALKS.MIXES["shut" if is_cycling else task.mix]
-    mix = mix._replace(kinds=CYCLING) if is_cycling else mix
+    is_cycling, mix = task.mix in ("cycles", "rings"), mix_of(task.mix)
 
     def script(engine: Engine) -> Iterator[Event]:
         source = WALKS.Source(mix, f"kernel {task.mix} {task.seed}")
@@ -204,7 +216,7 @@ def why_nothing() -> str:
 def main() -> int:
     raw = argparse.RawDescriptionHelpFormatter
     form = argparse.ArgumentParser(description=__doc__, formatter_class=raw)
-    form.add_argument("--seeds", type=int, default=24, metavar="N", help="how many walks (24)")
+    form.add_argument("--seeds", type=int, default=28, metavar="N", help="how many walks (28)")
     form.add_argument("--first", type=int, default=1, metavar="SEED", help="the first seed (1)")
     form.add_argument("--events", type=int, default=400, metavar="N", help="events of a walk (400)")
     form.add_argument("--mix", choices=MIXES, help="walks of this mix alone")
