@@ -7,7 +7,7 @@
 # make lists     write the events of CALLING.md, scmgc.1 and the help of play, after a change of SCRIPTS.md
 # make test      the gate: proofs from nothing, all tests, wrong bodies: half an hour to an hour on four cores
 # make walks     random scripts and edited lines by the proved program, compared with an engine and a reader in Python
-# make kernel-walks  as root: SEEDS (24) random scripts by real sockets of this Linux, compared with the plain engine
+# make kernel-walks  as root: SEEDS (28) random scripts by real sockets of this Linux, compared with the plain engine
 # make stress    each request for memory refused in turn, and the largest worlds, by the proved program and tests
 # make bench     nanoseconds for each event by the proved program, over named workloads, and calls a second from threads
 # make try-lib   build out/unproved/libjaywardrobe.a, for C and Rust, without proofs, in a minute or two
@@ -30,7 +30,7 @@ UNPROVED := out/unproved/libjaywardrobe.a
 # The kit's folder: it has the few heap functions over malloc that the library stands on.
 KIT = $(dir $(firstword $(shell rt doc 2> /dev/null)))
 SCRIPT ?= examples/cycle.script
-SEEDS ?= 24
+SEEDS ?= 28
 PREFIX ?= /usr/local
 BINDIR ?= $(PREFIX)/bin
 LIBDIR ?= $(PREFIX)/lib
