@@ -528,7 +528,8 @@ int64_t jw_released(const jw_engine *engine, uint64_t *inos, size_t ninos);
 /* Writes the inode numbers of the live sockets whose readiness may have changed since the lists
  * were emptied last, each once, as many as there is room for. Answers the length of the list, which
  * is 0 before jw_tell_changed. It needs no memory.
- * For a socket that is not in the list, and whose peer is not, jw_poll writes what it did then. */
+ * For a socket that is not in the list, and whose peer or target is not, jw_poll writes what it did
+ * then; but not where its target was freed since, which jw_released tells. */
 JW_MUST_USE JW_NONNULL(1)
 int64_t jw_changed(const jw_engine *engine, uint64_t *inos, size_t ninos);
 

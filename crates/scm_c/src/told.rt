@@ -60,7 +60,8 @@ pub extern "C" fn jw_released(alloc: Global, engine: &mut Handle, inos: &mut [u6
 /// were emptied last, each once, as many as there is room for. Answers the length of the list,
 /// which is 0 before jw_tell_changed. It needs no memory.
 ///
-/// For a socket that is not in the list, and whose peer is not, jw_poll writes what it did then.
+/// For a socket that is not in the list, and whose peer or target is not, jw_poll writes what it
+/// did then; but not where its target was freed since, which jw_released tells.
 #[must_use]
 #[unsafe(no_mangle)]
 pub extern "C" fn jw_changed(alloc: Global, engine: &mut Handle, inos: &mut [u64]) -> i64

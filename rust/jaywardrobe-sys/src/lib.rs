@@ -470,8 +470,8 @@ unsafe extern "C" {
     /// lists were emptied last, each once, as many as there is room for. Answers the length of the
     /// list, which is 0 before jw_tell_changed. It needs no memory.
     ///
-    /// For a socket that is not in the list, and whose peer is not, jw_poll writes what it did
-    /// then.
+    /// For a socket that is not in the list, and whose peer or target is not, jw_poll writes what
+    /// it did then; but not where its target was freed since, which jw_released tells.
     pub fn jw_changed(engine: *mut jw_engine, inos: *mut u64, ninos: usize) -> i64;
     /// Empties both lists. It needs no memory. Answers 0.
     pub fn jw_clear_told(engine: *mut jw_engine) -> i64;

@@ -128,8 +128,8 @@ impl<T> Owned<T> {
 
     /// Returns the live sockets whose readiness may have changed since it was called last, each
     /// once. The list is empty unless [`with_readiness`](Owned::with_readiness) made the engine. For
-    /// a socket that is not listed, and whose peer is not, [`Engine::poll`] returns what it did
-    /// then.
+    /// a socket that is not listed, and whose peer or target is not, [`Engine::poll`] returns what
+    /// it did then; but not where its target was freed since.
     pub fn take_changed(&mut self) -> Vec<Ino> {
         self.read_lists();
         let changed = std::mem::take(&mut self.changed).into_iter();

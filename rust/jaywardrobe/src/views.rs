@@ -188,8 +188,9 @@ impl Engine {
     }
 
     /// Returns the live sockets whose readiness may have changed since the lists were emptied last,
-    /// each once. For a socket that is not listed, and whose peer is not, [`poll`](Engine::poll)
-    /// returns what it did then.
+    /// each once. For a socket that is not listed, and whose peer or target is not,
+    /// [`poll`](Engine::poll) returns what it did then; but not where its target was freed since,
+    /// which [`released`](Engine::released) tells.
     pub fn changed(&self) -> Vec<Ino> {
         list_of(|inos| self.handle.changed(inos))
     }
