@@ -29,8 +29,9 @@ impl Engine {
     }
 
     /// Returns the sockets whose readiness may have changed since the lists were last emptied, each
-    /// once, if that list is kept. If neither a socket nor its peer is listed, `poll` answers as it
-    /// did then. A plain file is never listed: it is always ready. No search.
+    /// once, if that list is kept. If neither a socket nor its peer or target is listed, `poll`
+    /// answers as it did then; but not where its target was freed since, which `released_files`
+    /// tells. A plain file is never listed: it is always ready. No search.
     pub fn changed_sockets(&self) -> &[FileRef]
         ensures once { AreSocketsOnce self.now.world.files result.now }
         ensures changed { TellsChanged self.now.world self.now.since result.now }
